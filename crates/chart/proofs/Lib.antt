@@ -1,0 +1,3 @@
+pub mod Parts
+pub mod Windows
+pub mod Layouts

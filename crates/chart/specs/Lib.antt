@@ -1,0 +1,4 @@
+pub mod Bytes
+pub mod Charts
+pub mod Reading
+pub mod Laid
