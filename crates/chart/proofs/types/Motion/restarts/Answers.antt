@@ -13,7 +13,7 @@ use Rattle.chart.proofs.types.Motion.restarts.Needs as need
 -- bits above the eighth are 0
 high : (bits timer : ℕ) → bits < 256 → 8 < timer → eqb (bits / 2 ^ (timer - 1) % 2) 1 ≡ false
 high bits timer small h =
-    let p : 2 ^ 8 ≤ 2 ^ (timer - 1) = pow-mono (omega arith) in
+    let p : 2 ^ 8 ≤ 2 ^ (timer - 1) = pow-mono {i = 8} {j = timer - 1} (omega arith) in
     let q : bits < 1 * 2 ^ (timer - 1) = omega arith in
     let z : bits / 2 ^ (timer - 1) < 1 = div-below bits (2 ^ (timer - 1)) 1 (pow-pos (timer - 1)) q in
     ne-eqb (bits / 2 ^ (timer - 1) % 2) 1 (λ e. omega (arith, e))
