@@ -7,7 +7,7 @@ use mathlib.Core.List.{List, [], _∷_, _++_, append-assoc}
 use native.Mathlib.Omega.{arith}
 use native.Mathlib.Nat.{le-trans}
 use native.Mathlib.Numerals.{add-one}
-use lib.Dec.{T, ltb, leb, eqb, leb→le}
+use lib.Dec.{ltb, leb, eqb}
 use lib.ListN.{length, getD, drop, length-append, length-drop}
 use lib.Seq.{drop-cons, getD-drop}
 use Rattle.std.proofs.shelf.Tests.{eqb-true, ltb-false, leb-false}
@@ -25,8 +25,9 @@ use Rattle.chart.specs.declared.types.MotionFault.{MotionFault}
 use Rattle.chart.specs.declared.types.MotionFault.the-variants as fault
 use Rattle.chart.specs.Bytes.{four, fourBytes}
 use Rattle.chart.specs.Charts.{Motion, All, MotionOf}
-use Rattle.chart.specs.Reading.{whenTrue, ifLe, signOf, signed, windowBy, windowAt, before, windowsFrom, motionOf}
+use Rattle.chart.specs.Reading.{signOf, signed, windowBy, windowAt, before, windowsFrom, motionOf}
 use Rattle.chart.specs.Laid.{signByte, windowBytes, windowsBytes, motionBytes, Laid}
+use Rattle.chart.proofs.Ranges.{past-le, past-within}
 use Rattle.chart.proofs.Parts.{window-made, same-window}
 use Rattle.chart.proofs.Windows.{by-windows}
 
@@ -36,13 +37,6 @@ use Rattle.chart.proofs.Windows.{by-windows}
 pub past : {A : Type 0} (b : Bool) (x : MotionFault) (r : Result A MotionFault) (w : A) → cond b (Err x) r ≡ Ok w → (b ≡ false) × (r ≡ Ok w)
 past true x r w e = absurd (grind arith)
 past false x r w e = (refl, e)
-
-past-le : {A : Type 0} (a b : ℕ) (met : a ≤ b → Result A MotionFault) (x : MotionFault) (w : A) → ifLe a b met (Err x) ≡ Ok w → (h : a ≤ b) × (met h ≡ Ok w)
-past-le {A} a b met x w e = go (leb a b) (leb→le a b) e
-  where
-    go : (t : Bool) (fact : T t → a ≤ b) → whenTrue t (λ p. met (fact p)) (Err x) ≡ Ok w → (h : a ≤ b) × (met h ≡ Ok w)
-    go true fact q = (fact tt, q)
-    go false fact q = absurd (grind arith)
 
 pub mapped-back : {A B E : Type 0} (f : A → B) (r : Result A E) (y : B) → mapped f (λ e. e) r ≡ Ok y → (x : A) × (r ≡ Ok x) × (f x ≡ y)
 mapped-back f (Err e) y h = absurd (grind arith)
@@ -65,7 +59,7 @@ signed-back : (t v at : ℕ) (some : 1 ≤ t) (most : t ≤ 8) (o : Option Sign)
 signed-back t v at some most None w e = absurd (grind arith)
 signed-back t v at some most (Some g) w e =
     let made : v ≤ 1000000000 → Window = λ range. record { timer = t; sign = g; number = v; some = some; most = most; range = range } in
-    let p = past-le v 1000000000 (λ range. Ok (made range)) (fault.Number (at + 2)) w e in
+    let p = past-le (fault.Number (at + 2)) w v 1000000000 (λ range. Ok (made range)) e in
     let q : made (p .0) ≡ w = cc (p .1) in
     (ap (λ (x : Window). Some (x .sign)) q, sym (ap (λ (x : Window). x .timer) q), sym (ap (λ (x : Window). x .number) q))
 
@@ -98,12 +92,11 @@ window-back : (n : Timers) (t s a b c d at : ℕ) (w : Window) → a < 256 → b
 window-back n t s a b c d at w ha hb hc hd e =
     let v : ℕ = a + 256 * b + 65536 * c + 16777216 * d in
     let rest : 1 ≤ t → t ≤ n .count → Result Window MotionFault = λ some most. signed t v at some (le-trans most (n .most)) (signOf s) in
-    let p = past-le 1 t (λ some. ifLe t (n .count) (rest some) (Err (fault.Timer at))) (fault.Timer at) w e in
-    let q = past-le t (n .count) (rest (p .0)) (fault.Timer at) w (p .1) in
-    let r = signed-back t v at (p .0) (le-trans (q .0) (n .most)) (signOf s) w (q .1) in
+    let p = past-within (fault.Timer at) w 1 (n .count) t rest e in
+    let r = signed-back t v at (p .0) (le-trans (p .1) (n .most)) (signOf s) w (p .2) in
     let g = sign-back s (w .sign) (r .0) in
     let l = four-back a b c d ha hb hc hd in
-    (rw (r .1, g, r .2, l), rw (r .1) (q .0))
+    (rw (r .1, g, r .2, l), rw (r .1) (p .1))
 
 one : (bs : List ℕ) (i j : ℕ) → j ≡ i + 1 → i < length bs → drop i bs ≡ getD bs i 0 ∷ drop j bs
 one bs i j e h = rw (e, add-one) (drop-cons bs i 0 h)
@@ -232,3 +225,9 @@ read-from-laid n bs m used l =
     by-windows n bs (omega (arith, l .size)) (omega (arith, c, l .fits .few)) small (omega (arith, c, l .size)) (Ok ws) made
     ∙ ap (λ (x : ℕ). Ok (record { windows = ws; restarts = x }, 2 + 6 * getD bs 0 0)) r
     ∙ ap (λ (x : ℕ). Ok (m, 2 + 6 * x)) c ∙ ap (λ (x : ℕ). Ok (m, x)) (sym size)
+
+-- a motion has two bytes or more, and lies within those it was read from
+pub laid-sized : (n : ℕ) (bs : List ℕ) (m : Motion) (used : ℕ) → Laid n bs m used → (2 ≤ used) × (used ≤ length bs)
+laid-sized n bs m used l =
+    let all : length bs ≡ length (motionBytes m) + length (l .rest) = ap length (l .whole) ∙ length-append (motionBytes m) (l .rest) in
+    (omega (arith, l .size), omega (arith, l .size))

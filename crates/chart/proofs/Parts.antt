@@ -1,13 +1,10 @@
 -- A window by its parts: which fault it has, or that it is read. Assumes nothing.
 use Prim.Native.Nat.{ℕ, _+_, _<_, _≤_}
 use mathlib.Core.Path.{_≡_, refl, sym, _∙_, ap}
-use mathlib.Core.Bool.{Bool, true, false}
 use mathlib.Core.HLevel.{isProp→PathP}
 use native.Mathlib.Omega.{arith}
 use native.Mathlib.Bridge.{le-prop}
 use native.Mathlib.Nat.{le-trans}
-use lib.Dec.{T, leb, leb→le}
-use Rattle.std.proofs.shelf.Tests.{le-leb, lt-leb}
 use Rattle.std.specs.declared.option.Option.{Option}
 use Rattle.std.specs.declared.option.Option.the-variants.{None, Some}
 use Rattle.std.specs.declared.result.Result.{Result}
@@ -17,44 +14,23 @@ use Rattle.chart.specs.declared.types.Sign.{Sign}
 use Rattle.chart.specs.declared.types.Window.{Window}
 use Rattle.chart.specs.declared.types.MotionFault.{MotionFault}
 use Rattle.chart.specs.declared.types.MotionFault.the-variants as fault
-use Rattle.chart.specs.Reading.{whenTrue, ifLe, signOf, signed, windowBy}
-
-module _ {A : Type 0} (a b : ℕ) (met : a ≤ b → A) (unmet : A) where
-  when-met : (t : Bool) (fact : T t → a ≤ b) → t ≡ true → (h : a ≤ b) → whenTrue t (λ x. met (fact x)) unmet ≡ met h
-  when-met true fact e h = ap met (le-prop (fact tt) h)
-  when-met false fact e h = absurd (grind arith)
-
-  pub le-met : (h : a ≤ b) → ifLe a b met unmet ≡ met h
-  le-met h = when-met (leb a b) (leb→le a b) (le-leb a b h) h
-
-  when-unmet : (t : Bool) (fact : T t → a ≤ b) → t ≡ false → whenTrue t (λ x. met (fact x)) unmet ≡ unmet
-  when-unmet true fact e = absurd (grind arith)
-  when-unmet false fact e = refl
-
-  pub le-unmet : b < a → ifLe a b met unmet ≡ unmet
-  le-unmet h = when-unmet (leb a b) (leb→le a b) (lt-leb a b h)
+use Rattle.chart.specs.Reading.{signOf, signed, windowBy}
+use Rattle.chart.proofs.Ranges.{le-met, le-unmet, within-met, within-under, within-over}
 
 module _ (n : Timers) (timer byte number at : ℕ) where
-  -- what is looked at once the timer is at least 1, and once it is at most n
-  abbrev below : 1 ≤ timer → timer ≤ n .count → Result Window MotionFault
-  below some most = signed timer number at some (le-trans most (n .most)) (signOf byte)
-
-  abbrev above : 1 ≤ timer → Result Window MotionFault
-  above some = ifLe timer (n .count) (below some) (Err (fault.Timer at))
+  -- what is looked at once the timer is one of the machine's
+  abbrev rest : 1 ≤ timer → timer ≤ n .count → Result Window MotionFault
+  rest some most = signed timer number at some (le-trans most (n .most)) (signOf byte)
 
   pub timer-none : timer < 1 → windowBy n timer byte number at ≡ Err (fault.Timer at)
-  timer-none h = le-unmet 1 timer above (Err (fault.Timer at)) h
+  timer-none h = within-under 1 (n .count) timer rest (Err (fault.Timer at)) h
 
   pub timer-above : n .count < timer → windowBy n timer byte number at ≡ Err (fault.Timer at)
-  timer-above h =
-      let some : 1 ≤ timer = omega (arith, n .some) in
-      le-met 1 timer above (Err (fault.Timer at)) some ∙ le-unmet timer (n .count) (below some) (Err (fault.Timer at)) h
+  timer-above h = within-over 1 (n .count) timer rest (Err (fault.Timer at)) (omega (arith, n .some)) h
 
   module _ (some : 1 ≤ timer) (most : timer ≤ n .count) where
     by-sign : (s : Option Sign) → signOf byte ≡ s → windowBy n timer byte number at ≡ signed timer number at some (le-trans most (n .most)) s
-    by-sign s e =
-        le-met 1 timer above (Err (fault.Timer at)) some ∙ le-met timer (n .count) (below some) (Err (fault.Timer at)) most
-        ∙ ap (signed timer number at some (le-trans most (n .most))) e
+    by-sign s e = within-met 1 (n .count) timer rest (Err (fault.Timer at)) some most ∙ ap (signed timer number at some (le-trans most (n .most))) e
 
     pub sign-none : signOf byte ≡ None → windowBy n timer byte number at ≡ Err (fault.Sign (at + 1))
     sign-none e = by-sign None e

@@ -1,4 +1,5 @@
 pub mod Bytes
+pub mod Ranges
 pub mod Charts
 pub mod Reading
 pub mod Laid

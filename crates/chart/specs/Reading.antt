@@ -1,9 +1,9 @@
 -- What is read of a motion's bytes: the motion and how many bytes it used, or the first fault. Assumes nothing.
 use Prim.Native.Nat.{ℕ, zero, suc, _+_, _*_, _^_, _≤_}
 use native.Mathlib.Nat.{le-trans}
-use mathlib.Core.Bool.{Bool, true, false, cond}
+use mathlib.Core.Bool.{cond}
 use mathlib.Core.List.{List, [], _∷_}
-use lib.Dec.{T, ltb, leb, eqb, leb→le}
+use lib.Dec.{ltb, leb, eqb}
 use lib.ListN.{length, getD}
 use Rattle.std.specs.declared.option.Option.{Option}
 use Rattle.std.specs.declared.option.Option.the-variants.{None, Some}
@@ -17,16 +17,8 @@ use Rattle.chart.specs.declared.types.Window.{Window}
 use Rattle.chart.specs.declared.types.MotionFault.{MotionFault}
 use Rattle.chart.specs.declared.types.MotionFault.the-variants as fault
 use Rattle.chart.specs.Bytes.{four}
+use Rattle.chart.specs.Ranges.{ifLe, ifWithin}
 use Rattle.chart.specs.Charts.{Motion}
-
--- one answer where a test passes, which may use that fact, and another where it fails
-abbrev pub whenTrue : {A : Type 0} (b : Bool) → (T b → A) → A → A
-whenTrue true met unmet = met tt
-whenTrue false met unmet = unmet
-
--- one answer where a ≤ b, which may use that fact, and another where not
-abbrev pub ifLe : {A : Type 0} (a b : ℕ) → (a ≤ b → A) → A → A
-ifLe a b met unmet = whenTrue (leb a b) (λ t. met (leb→le a b t)) unmet
 
 -- 1 to 5 are ≤ < ≥ > =
 abbrev pub signOf : ℕ → Option Sign
@@ -48,10 +40,8 @@ signed timer number at some most (Some s) =
 
 abbrev pub windowBy : (n : Timers) (timer sign number at : ℕ) → Result Window MotionFault
 windowBy n timer sign number at =
-    ifLe 1 timer
-    (λ some. ifLe timer (n .count)
-      (λ most. signed timer number at some (le-trans most (n .most)) (signOf sign))
-      (Err (fault.Timer at)))
+    ifWithin 1 (n .count) timer
+    (λ some most. signed timer number at some (le-trans most (n .most)) (signOf sign))
     (Err (fault.Timer at))
 
 -- the window whose six bytes begin at `at`

@@ -7,6 +7,7 @@ ghost use Rattle.std.specs.Results.{mapped};
 ghost use Rattle.std.specs.declared.result.Result.the-variants.{Ok};
 ghost use Rattle.chart.specs.Charts.{Motion as AnyMotion, held, heldWith, restartsTimer};
 ghost use Rattle.chart.specs.Laid.{Laid};
+ghost use Rattle.chart.specs.Ranges.{timersOf};
 ghost use Rattle.chart.specs.Reading.{signOf, windowAt, motionOf};
 use crate::bytes::u32_at;
 use crate::types::Motion;
@@ -98,6 +99,18 @@ pub fn read_motion(bytes: &[u8], timers: Timers) -> Result<(Motion, usize), Moti
     ensures laid { λ r. ⌜ ((m : AnyMotion) (used : ℕ) → (mapped heldWith (λ e. e) r ≡ Ok (m, used)) ↔ Laid (timers .count) (now (bytes .entry)) m used) ⌝ }
 {
     motion_of(bytes, timers)
+}
+
+impl Timers {
+    // That many timers, where a machine may have so many.
+    pub fn new(count: u8) -> Option<Timers>
+        ensures { λ r. ⌜ r ≡ timersOf count ⌝ }
+    {
+        if count == 0 || count > 8 {
+            return None;
+        }
+        Some(Timers { count })
+    }
 }
 
 impl Motion {
