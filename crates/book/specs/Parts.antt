@@ -2,9 +2,9 @@
 use Prim.Native.Nat.{ℕ, zero, suc, _+_}
 use mathlib.Core.Path.{_≡_}
 use mathlib.Core.Bool.{cond}
-use mathlib.Core.List.{List, [], _∷_, _++_}
+use mathlib.Core.List.{List, [], _∷_}
 use lib.Dec.{ltb, leb, eqb}
-use lib.ListN.{length, getD, drop}
+use lib.ListN.{length, getD, take, drop}
 use Rattle.std.specs.declared.option.Option.{Option}
 use Rattle.std.specs.declared.option.Option.the-variants.{None, Some}
 use Rattle.std.specs.declared.result.Result.{Result}
@@ -13,7 +13,7 @@ use Rattle.std.specs.Results.{mapped}
 use Rattle.chart.specs.declared.types.Timers.{Timers}
 use Rattle.chart.specs.declared.types.MotionFault.{MotionFault}
 use Rattle.chart.specs.Charts.{Motion, Chart, ChartOf}
-use Rattle.chart.specs.Laid.{motionBytes}
+use Rattle.chart.specs.Laid.{chartBytes}
 use Rattle.chart.specs.Ranges.{timersOf}
 use Rattle.chart.specs.Reading.{motionOf}
 use Rattle.book.specs.declared.head.Kind.{Kind}
@@ -27,7 +27,7 @@ use Rattle.book.specs.declared.faults.ChartFault.{ChartFault}
 use Rattle.book.specs.declared.faults.ChartFault.the-variants as chart
 use Rattle.book.specs.declared.faults.BookFault.{BookFault}
 use Rattle.book.specs.declared.faults.BookFault.the-variants as book
-use Rattle.book.specs.Layout.{offset, handed}
+use Rattle.book.specs.Layout.{placeOf, handed}
 
 -- kind 1 is Tick, kind 2 is Edge
 abbrev pub kindOf : ℕ → Option Kind
@@ -75,3 +75,29 @@ chartOf part = chartBy part (headOf part)
 
 abbrev pub partCount : List ℕ → Result ℕ ChartFault
 partCount part = mapped (λ p. length (p .1)) (λ e. e) (chartOf part)
+
+-- how many motions chart k has, counted from 1, or the first fault of the book or of the chart
+abbrev pub countBy : List ℕ → ℕ → Result (ℕ × ℕ) BookFault → Result ℕ BookFault
+countBy bytes k (Err e) = Err e
+countBy bytes k (Ok (start, size)) = mapped (λ c. c) (λ e. book.Chart (atChart k start e)) (partCount (take size (drop start bytes)))
+
+abbrev pub countOf : List ℕ → ℕ → Result ℕ BookFault
+countOf bytes k = countBy bytes k (placeOf bytes k)
+
+abbrev pub kindByte : Kind → ℕ
+kindByte Tick = 1
+kindByte Edge = 2
+
+-- the bytes of a part are those of a chart: kind, timers, and then its motions to the end
+pub record PartOf (part : List ℕ) (head : Head) (motions : Chart) : Type 0 where
+  pub whole : part ≡ kindByte (head .kind) ∷ head .timers .count ∷ chartBytes motions
+  pub fits : ChartOf (head .timers .count) motions
+
+-- the bytes that the pair of chart k names are those of a chart of that many motions
+pub record Counts (bytes : List ℕ) (k count : ℕ) : Type 0 where
+  pub part : List ℕ
+  pub head : Head
+  pub motions : Chart
+  pub named : handed bytes k ≡ Ok part
+  pub laid : PartOf part head motions
+  pub all : count ≡ length motions

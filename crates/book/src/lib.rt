@@ -26,4 +26,5 @@ pub use head::KindDebug;
 pub use head::KindPartialEq;
 pub use layout::charts;
 pub use layout::chart;
+pub use part::count_motions;
 pub use part::head_of;

@@ -6,7 +6,7 @@ ghost use lib.ListN.{length};
 ghost use Rattle.std.specs.Results.{mapped};
 ghost use Rattle.std.specs.declared.result.Result.the-variants.{Ok};
 ghost use Rattle.book.specs.declared.faults.ChartFault.the-variants.{Board as ofBoard};
-ghost use Rattle.book.specs.Parts.{kindOf, headOf, usedBy, atMotion, atChart, partCount};
+ghost use Rattle.book.specs.Parts.{kindOf, headOf, usedBy, atMotion, atChart, partCount, countOf, Counts};
 use crate::faults::AtChart;
 use crate::faults::AtMotion;
 use crate::faults::BoardFault;
@@ -93,4 +93,23 @@ fn part_count(part: &[u8]) -> Result<u32, ChartFault>
         motions += 1;
     }
     Ok(motions)
+}
+
+// The checks of a book and of one of its charts, in their order.
+fn counted(book: &[u8], number: u16) -> Result<u32, BookFault>
+    ensures { λ r. ⌜ r ≡ countOf (now (book .entry)) number ⌝ }
+{
+    let place = place(book, number)?;
+    let start = place.offset;
+    let end = start + place.size;
+    let count = at_chart(part_count(&book[start..end]), number, start as u32)?;
+    Ok(count)
+}
+
+// How many motions chart `number` has, counted from 1, or the first fault of the book or of the chart.
+pub fn count_motions(book: &[u8], number: u16) -> Result<u32, BookFault>
+    ensures value { λ r. ⌜ r ≡ countOf (now (book .entry)) number ⌝ }
+    ensures laid { λ r. ⌜ ((count : ℕ) → (r ≡ Ok count) ↔ Counts (now (book .entry)) number count) ⌝ }
+{
+    counted(book, number)
 }

@@ -1,6 +1,6 @@
 -- What a test of a range answers. Assumes nothing.
 use Prim.Native.Nat.{ℕ, _<_, _≤_}
-use mathlib.Core.Path.{_≡_, refl, _∙_, ap}
+use mathlib.Core.Path.{_≡_, refl, sym, _∙_, ap}
 use mathlib.Core.Bool.{Bool, true, false}
 use native.Mathlib.Omega.{arith}
 use native.Mathlib.Bridge.{le-prop}
@@ -69,3 +69,11 @@ timers-under count h = within-under 1 8 count (made count) None h
 
 pub timers-over : (count : ℕ) → 8 < count → timersOf count ≡ None
 timers-over count h = within-over 1 8 count (made count) None (omega arith) h
+
+pub timers-back : (count : ℕ) (t : Timers) → timersOf count ≡ Some t → t .count ≡ count
+timers-back count t e = go (leb 1 count) (leb→le 1 count) (leb count 8) (leb→le count 8) e
+  where
+    go : (a : Bool) (f : T a → 1 ≤ count) (b : Bool) (g : T b → count ≤ 8) → whenTrue a (λ x. whenTrue b (λ y. made count (f x) (g y)) None) None ≡ Some t → t .count ≡ count
+    go true f true g q = let h : record { count = count; some = f tt; most = g tt } ≡ t = cc in sym (ap (λ (x : Timers). x .count) h)
+    go true f false g q = absurd (grind arith)
+    go false f b g q = absurd (grind arith)

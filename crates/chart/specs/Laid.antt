@@ -7,7 +7,7 @@ use Rattle.chart.specs.declared.types.Sign.{Sign}
 use Rattle.chart.specs.declared.types.Sign.the-variants.{AtMost, Under, AtLeast, Over, Equal}
 use Rattle.chart.specs.declared.types.Window.{Window}
 use Rattle.chart.specs.Bytes.{fourBytes}
-use Rattle.chart.specs.Charts.{Motion, MotionOf}
+use Rattle.chart.specs.Charts.{Motion, Chart, MotionOf}
 
 -- ≤ < ≥ > = are 1 to 5
 abbrev pub signByte : Sign → ℕ
@@ -28,6 +28,11 @@ windowsBytes (w ∷ ws) = windowBytes w ++ windowsBytes ws
 -- a motion: the number of its windows, its restarts, its windows
 abbrev pub motionBytes : Motion → List ℕ
 motionBytes m = length (m .windows) ∷ m .restarts ∷ windowsBytes (m .windows)
+
+-- a chart: its motions, one after the other
+abbrev pub chartBytes : Chart → List ℕ
+chartBytes [] = []
+chartBytes (m ∷ ms) = motionBytes m ++ chartBytes ms
 
 -- the bytes are those of a motion of n timers, `used` many, and then the rest
 pub record Laid (n : ℕ) (bytes : List ℕ) (m : Motion) (used : ℕ) : Type 0 where
