@@ -60,15 +60,15 @@ module _ (n : Timers) (part : List ℕ) (small : (i : ℕ) → getD part i 0 < 2
   motions-laid (suc most) at k ms e h =
       ⊎-elim
       (λ (inside : at < length part).
-        let q = onward-back k at (motionOf n (drop at part)) (λ used. motionsFrom most n part (at + used) (k + 1)) ms (sym (cond-false _ _ _ (lt-leb (length part) at inside)) ∙ e) in
-        let m = q .0 in
-        let used = q .1 in
-        let l = laid-from-read n (drop at part) (small-after part small at) m used (q .3) in
-        let s = laid-sized (n .count) (drop at part) m used l in
-        let ih = motions-laid most (at + used) (k + 1) (q .2) (q .4) (omega arith) in
-        let rest : l .rest ≡ chartBytes (q .2) =
-        sym (drop-append-seam (motionBytes m) (l .rest)) ∙ ap (drop (length (motionBytes m))) (sym (l .whole)) ∙ ap (λ (u : ℕ). drop u (drop at part)) (sym (l .size)) ∙ drop-drop used at part ∙ ih .0 in
-        subst (Lies at) (sym (q .5)) (l .whole ∙ ap (λ (xs : List ℕ). motionBytes m ++ xs) rest, (l .fits, ih .1)))
+      let q = onward-back k at (motionOf n (drop at part)) (λ used. motionsFrom most n part (at + used) (k + 1)) ms (sym (cond-false _ _ _ (lt-leb (length part) at inside)) ∙ e) in
+      let m = q .0 in
+      let used = q .1 in
+      let l = laid-from-read n (drop at part) (small-after part small at) m used (q .3) in
+      let s = laid-sized (n .count) (drop at part) m used l in
+      let ih = motions-laid most (at + used) (k + 1) (q .2) (q .4) (omega arith) in
+      let rest : l .rest ≡ chartBytes (q .2) =
+      sym (drop-append-seam (motionBytes m) (l .rest)) ∙ ap (drop (length (motionBytes m))) (sym (l .whole)) ∙ ap (λ (u : ℕ). drop u (drop at part)) (sym (l .size)) ∙ drop-drop used at part ∙ ih .0 in
+      subst (Lies at) (sym (q .5)) (l .whole ∙ ap (λ (xs : List ℕ). motionBytes m ++ xs) rest, (l .fits, ih .1)))
       (λ (past : length part ≤ at). laid-end at ms (sym (motions-end (suc most) n part at k past) ∙ e) past)
       (cases-lt at (length part))
 
@@ -96,6 +96,7 @@ kind-back byte k e = first (eqb byte 1) refl e
     second : (b : Bool) → eqb byte 2 ≡ b → cond b (Some Edge) None ≡ Some k → kindByte k ≡ byte
     second true q h = let z : Edge ≡ k = cc in ap kindByte (sym z) ∙ sym (eqb-true byte 2 q)
     second false q h = absurd (grind arith)
+
     first : (b : Bool) → eqb byte 1 ≡ b → cond b (Some Tick) (cond (eqb byte 2) (Some Edge) None) ≡ Some k → kindByte k ≡ byte
     first true q h = let z : Tick ≡ k = cc in ap kindByte (sym z) ∙ sym (eqb-true byte 1 q)
     first false q h = second (eqb byte 2) refl h

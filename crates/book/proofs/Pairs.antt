@@ -17,7 +17,7 @@ use Rattle.book.specs.declared.faults.BookFault.the-variants.{Length, Count, C
 use Rattle.book.specs.Layout.{charts, offset, size, least, Sound, pairFault, orElse, pairsFault, layoutFault}
 
 pub least-next : (bs : List ℕ) (k : ℕ) → least bs (k + 1) ≡ offset bs k + size bs k
-least-next bs k = rw add-one
+least-next bs k = ap (least bs) (add-one k)
 
 module _ (bs : List ℕ) (left k : ℕ) (some : 0 < left) where
   step : (r : Option BookFault) → pairFault bs k ≡ r → pairsFault bs left k ≡ orElse r (pairsFault bs (left - 1) (k + 1))

@@ -11,6 +11,7 @@ use chart::bytes::u16_at;
 use chart::bytes::u32_at;
 
 const MOST_BYTES: usize = 65536;
+
 const MOST_CHARTS: u16 = 64;
 
 // Where a part begins, and how long it is.

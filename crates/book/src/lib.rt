@@ -24,7 +24,7 @@ pub use head::HeadPartialEq;
 pub use head::Kind;
 pub use head::KindDebug;
 pub use head::KindPartialEq;
-pub use layout::charts;
 pub use layout::chart;
+pub use layout::charts;
 pub use part::count_motions;
 pub use part::head_of;

@@ -17,6 +17,7 @@ use crate::types::Timers;
 use crate::types::Window;
 
 const MOST_WINDOWS: u8 = 16;
+
 const MOST_NUMBER: u32 = 1_000_000_000;
 
 fn sign_of(byte: u8) -> Option<Sign>

@@ -38,7 +38,10 @@ fn print_fault(rt: &LibcRuntime, fault: BookFault) -> io::Result<()> {
     let motion = numbers.motion;
     let reason = reasons::reason(fault);
     if motion > 0 {
-        println!(rt, "  refusal {number} at byte {byte}, in motion {motion}: {reason}")
+        println!(
+            rt,
+            "  refusal {number} at byte {byte}, in motion {motion}: {reason}"
+        )
     } else {
         println!(rt, "  refusal {number} at byte {byte}: {reason}")
     }

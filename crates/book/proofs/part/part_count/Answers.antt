@@ -40,11 +40,12 @@ returns-in-Break-used c =
     let h = c .in-Continue-head .head in
     let at = c .loop-at .at in
     let k = c .loop-at .motions in
+    let inside : at < length part = omega arith in
     let p = err-from-errBy (c .from-residual-in-Break-used .result) (c .from-residual-in-Break-used .ensures .1) in
     let q = at-back-err (k + 1) at (c .used-by .result) (c .in-Break-used .field-0 .0) (sym (c .in-Break-used .ensures tt)) in
-    let ending = here (h .timers) part at k (c .loop-at-test .taken) (c .loop-at .inv .0) (c .used-by .result) (c .used-by .ensures) in
+    let ending = here (h .timers) part at k inside (c .loop-at .inv .0) (c .used-by .result) (c .used-by .ensures) in
     rw (p .1, p .2, ← q .2) (by-motions part h (Err (atMotion (k + 1) at (q .0))) (c .in-Continue-head .ensures tt)
-    (c .loop-at .inv .2 ∙ ending ∙ ap (after (length part - k) (h .timers) part at k (omega arith) (c .loop-at-test .taken)) (q .1)))
+    (c .loop-at .inv .2 ∙ ending ∙ ap (after (length part - k) (h .timers) part at k (omega arith) inside) (q .1)))
 
 pub loop-at-again : need.loop-at-again
 loop-at-again c =
@@ -53,13 +54,14 @@ loop-at-again c =
     let at = c .loop-at .at in
     let k = c .loop-at .motions in
     let used = c .in-Continue-used .used in
+    let inside : at < length part = omega arith in
     let q = at-back-ok (k + 1) at (c .used-by .result) used (sym (c .in-Continue-used .ensures tt)) in
-    let s = sized (h .timers) part at k (c .loop-at-test .taken) (c .loop-at .inv .0) (c .used-by .result) (c .used-by .ensures) (λ i. c .typed .part i .fits) used q in
-    let next = here (h .timers) part at k (c .loop-at-test .taken) (c .loop-at .inv .0) (c .used-by .result) (c .used-by .ensures) in
+    let s = sized (h .timers) part at k inside (c .loop-at .inv .0) (c .used-by .result) (c .used-by .ensures) (λ i. c .typed .part i .fits) used q in
+    let next = here (h .timers) part at k inside (c .loop-at .inv .0) (c .used-by .result) (c .used-by .ensures) in
     let e : length part - k - 1 ≡ length part - (k + 1) = omega arith in (
       omega arith,
       s .1,
-      c .loop-at .inv .2 ∙ next ∙ ap (after (length part - k) (h .timers) part at k (omega arith) (c .loop-at-test .taken)) q
+      c .loop-at .inv .2 ∙ next ∙ ap (after (length part - k) (h .timers) part at k (omega arith) inside) q
           ∙ ap (λ (m : ℕ). counted (k + 1) (motionsFrom m (h .timers) part (at + used) (k + 1))) e,
     )
 

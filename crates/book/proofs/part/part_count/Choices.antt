@@ -10,7 +10,7 @@ Inv-loop-at l =
     (l .motions + 2 ≤ l .at)
     × (l .at ≤ length (l .part))
     × (counted 0 (motionsFrom (length (l .part)) (l .head .timers) (l .part) 2 0)
-      ≡ counted (l .motions) (motionsFrom (length (l .part) - l .motions) (l .head .timers) (l .part) (l .at) (l .motions)))
+    ≡ counted (l .motions) (motionsFrom (length (l .part) - l .motions) (l .head .timers) (l .part) (l .at) (l .motions)))
 
 abbrev pub μ-loop-at : given.MeasureT-loop-at
 μ-loop-at l = length (l .part) - l .at

@@ -19,17 +19,17 @@ loop-timer-again c =
     let text = string-bytes (c .loop-timer .all) in
     let whole = restartsFrom m 8 1 true in
     elim (c .if-restarts .came) [
-      then-restarts·in-Continue-one·in-Continue-push-str w ↦
-        let one = w .as-str .ensures .value ∙ w .in-Continue-one .ensures tt in
-        let now : string-bytes (c .if-restarts .all) ≡ text ++ (separator first ++ (codes "timer " ++ decimal i)) =
-        ap string-bytes (w .all-is) ∙ w .in-Continue-push-str .ensures tt .bytes ∙ ap (λ (xs : List ℕ). text ++ xs) one in
-        ap (λ (xs : List ℕ). xs ++ restartsFrom m (9 - (i + 1)) (i + 1) (c .if-restarts .first)) now
-        ∙ ap (λ (b : Bool). (text ++ (separator first ++ (codes "timer " ++ decimal i))) ++ restartsFrom m (9 - (i + 1)) (i + 1) b) (w .first-is)
-        ∙ restarts-more m i first text whole (c .loop-timer .inv) (c .loop-timer-test .taken) (sym (c .restarts .ensures) ∙ w .if-restarts .taken)
+      | then-restarts·in-Continue-one·in-Continue-push-str w ↦
+          let one = w .as-str .ensures .value ∙ w .in-Continue-one .ensures tt in
+          let now : string-bytes (c .if-restarts .all) ≡ text ++ (separator first ++ (codes "timer " ++ decimal i)) =
+          ap string-bytes (w .all-is) ∙ w .in-Continue-push-str .ensures tt .bytes ∙ ap (λ (xs : List ℕ). text ++ xs) one in
+          ap (λ (xs : List ℕ). xs ++ restartsFrom m (9 - (i + 1)) (i + 1) (c .if-restarts .first)) now
+          ∙ ap (λ (b : Bool). (text ++ (separator first ++ (codes "timer " ++ decimal i))) ++ restartsFrom m (9 - (i + 1)) (i + 1) b) (w .first-is)
+          ∙ restarts-more m i first text whole (c .loop-timer .inv) (c .loop-timer-test .taken) (sym (c .restarts .ensures) ∙ w .if-restarts .taken)
       | else-restarts w ↦
-        ap (λ (xs : List ℕ). xs ++ restartsFrom m (9 - (i + 1)) (i + 1) (c .if-restarts .first)) (ap string-bytes (w .all-is))
-        ∙ ap (λ (b : Bool). text ++ restartsFrom m (9 - (i + 1)) (i + 1) b) (w .first-is)
-        ∙ restarts-skip m i first text whole (c .loop-timer .inv) (c .loop-timer-test .taken) (sym (c .restarts .ensures) ∙ w .if-restarts .left)
+          ap (λ (xs : List ℕ). xs ++ restartsFrom m (9 - (i + 1)) (i + 1) (c .if-restarts .first)) (ap string-bytes (w .all-is))
+          ∙ ap (λ (b : Bool). text ++ restartsFrom m (9 - (i + 1)) (i + 1) b) (w .first-is)
+          ∙ restarts-skip m i first text whole (c .loop-timer .inv) (c .loop-timer-test .taken) (sym (c .restarts .ensures) ∙ w .if-restarts .left)
     ]
 
 pub returns : need.returns
@@ -38,8 +38,8 @@ returns c =
     let text = string-bytes (c .loop-timer .all) in
     let end = restarts-end m (c .loop-timer .timer) (c .loop-timer .first) text (restartsFrom m 8 1 true) (c .loop-timer .inv) (c .loop-timer-test .left) in
     elim (c .if-first .came) [
-      then-first·in-Continue-push-str-2 w ↦
-        ap string-bytes (w .all-is) ∙ w .in-Continue-push-str-2 .ensures tt .bytes ∙ ap (λ (b : Bool). text ++ cond b (codes "none") []) (sym (w .if-first .taken)) ∙ end
+      | then-first·in-Continue-push-str-2 w ↦
+          ap string-bytes (w .all-is) ∙ w .in-Continue-push-str-2 .ensures tt .bytes ∙ ap (λ (b : Bool). text ++ cond b (codes "none") []) (sym (w .if-first .taken)) ∙ end
       | else-first w ↦
-        ap string-bytes (w .all-is) ∙ sym (append-nil text) ∙ ap (λ (b : Bool). text ++ cond b (codes "none") []) (sym (w .if-first .left)) ∙ end
+          ap string-bytes (w .all-is) ∙ sym (append-nil text) ∙ ap (λ (b : Bool). text ++ cond b (codes "none") []) (sym (w .if-first .left)) ∙ end
     ]
