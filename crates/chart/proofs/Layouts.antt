@@ -24,7 +24,8 @@ use Rattle.chart.specs.declared.types.Window.{Window}
 use Rattle.chart.specs.declared.types.MotionFault.{MotionFault}
 use Rattle.chart.specs.declared.types.MotionFault.the-variants as fault
 use Rattle.chart.specs.Bytes.{four, fourBytes}
-use Rattle.chart.specs.Charts.{Motion, All, MotionOf}
+use Rattle.chart.specs.Lists.{All}
+use Rattle.chart.specs.Charts.{Motion, WindowOf, MotionOf}
 use Rattle.chart.specs.Reading.{signOf, signed, windowBy, windowAt, before, windowsFrom, motionOf}
 use Rattle.chart.specs.Laid.{signByte, windowBytes, windowsBytes, motionBytes, Laid}
 use Rattle.chart.proofs.Ranges.{past-le, past-within}
@@ -124,12 +125,12 @@ length-windows (w ∷ ws) = let ih = length-windows ws in simp length-append (om
 
 module _ (n : Timers) (bs : List ℕ) (small : (i : ℕ) → getD bs i 0 < 256) where
   windows-laid : (left k : ℕ) (ws : List Window) → windowsFrom n bs left k ≡ Ok ws → 2 + 6 * (k + left) ≤ length bs
-      → (length ws ≡ left) × (drop (2 + 6 * k) bs ≡ windowsBytes ws ++ drop (2 + 6 * (k + left)) bs) × (All (λ w. w .timer ≤ n .count) ws)
+      → (length ws ≡ left) × (drop (2 + 6 * k) bs ≡ windowsBytes ws ++ drop (2 + 6 * (k + left)) bs) × (All (WindowOf (n .count)) ws)
   unfolding windowsFrom
   windows-laid zero k ws e h =
       let q : [] ≡ ws = cc in
       let z : k ≡ k + 0 = omega arith in
-      let P : List Window → Type 0 = λ vs. (length vs ≡ 0) × (drop (2 + 6 * k) bs ≡ windowsBytes vs ++ drop (2 + 6 * (k + 0)) bs) × (All (λ w. w .timer ≤ n .count) vs) in
+      let P : List Window → Type 0 = λ vs. (length vs ≡ 0) × (drop (2 + 6 * k) bs ≡ windowsBytes vs ++ drop (2 + 6 * (k + 0)) bs) × (All (WindowOf (n .count)) vs) in
       subst P q (refl, ap (λ (j : ℕ). drop (2 + 6 * j) bs) z, tt)
   windows-laid (suc left) k ws e h =
       let at : ℕ = 2 + 6 * k in
@@ -145,7 +146,7 @@ module _ (n : Timers) (bs : List ℕ) (small : (i : ℕ) → getD bs i 0 < 256) 
       here ∙ ap (λ (j : ℕ). windowBytes w ++ drop j bs) next ∙ ap (λ (xs : List ℕ). windowBytes w ++ xs) (ih .1)
       ∙ ap (λ (j : ℕ). windowBytes w ++ (windowsBytes vs ++ drop (2 + 6 * j) bs)) end
       ∙ sym (append-assoc (windowBytes w) (windowsBytes vs) (drop (2 + 6 * (k + suc left)) bs)) in
-      let P : List Window → Type 0 = λ us. (length us ≡ suc left) × (drop (2 + 6 * k) bs ≡ windowsBytes us ++ drop (2 + 6 * (k + suc left)) bs) × (All (λ w. w .timer ≤ n .count) us) in
+      let P : List Window → Type 0 = λ us. (length us ≡ suc left) × (drop (2 + 6 * k) bs ≡ windowsBytes us ++ drop (2 + 6 * (k + suc left)) bs) × (All (WindowOf (n .count)) us) in
       subst P (sym (p .4)) (ap suc (ih .0), front, (b .1, ih .2))
 
   pub laid-from-read : (m : Motion) (used : ℕ) → motionOf n bs ≡ Ok (m, used) → Laid (n .count) bs m used
@@ -191,7 +192,7 @@ window-forth n at w f =
 at-drop : (bs xs : List ℕ) (at j i : ℕ) → drop at bs ≡ xs → i ≡ at + j → getD bs i 0 ≡ getD xs j 0
 at-drop bs xs at j i e q = ap (λ (l : ℕ). getD bs l 0) q ∙ sym (getD-drop at bs j 0) ∙ ap (λ (l : List ℕ). getD l j 0) e
 
-windows-read : (n : Timers) (bs : List ℕ) (ws : List Window) (k : ℕ) (rest : List ℕ) → drop (2 + 6 * k) bs ≡ windowsBytes ws ++ rest → All (λ w. w .timer ≤ n .count) ws → windowsFrom n bs (length ws) k ≡ Ok ws
+windows-read : (n : Timers) (bs : List ℕ) (ws : List Window) (k : ℕ) (rest : List ℕ) → drop (2 + 6 * k) bs ≡ windowsBytes ws ++ rest → All (WindowOf (n .count)) ws → windowsFrom n bs (length ws) k ≡ Ok ws
 unfolding windowsFrom
 windows-read n bs [] k rest e f = refl
 windows-read n bs (w ∷ ws) k rest e f =

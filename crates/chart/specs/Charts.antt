@@ -1,11 +1,12 @@
 -- Motions and charts, as they are spoken of, without the memory that holds them. Assumes nothing.
 use Prim.Native.Nat.{ℕ, _-_, _/_, _%_, _^_, _<_, _≤_}
 use mathlib.Core.Bool.{Bool, _&&_}
-use mathlib.Core.List.{List, [], _∷_}
+use mathlib.Core.List.{List}
 use lib.Dec.{leb, eqb}
 use lib.ListN.{length, take}
 use Rattle.chart.specs.declared.types.Window.{Window}
 use Rattle.chart.specs.declared.types.Motion as fixed
+use Rattle.chart.specs.Lists.{All}
 
 -- a motion: its windows, and the timers that it restarts as a number whose bit i − 1 stands for timer i
 pub record Motion : Type 0 where
@@ -27,15 +28,14 @@ held m = record { windows = take (m .count) (m .slots); restarts = m .restarts }
 abbrev pub heldWith : fixed.Motion × ℕ → Motion × ℕ
 heldWith p = (held (p .0), p .1)
 
--- what holds of every element of a list
-abbrev pub All : {A : Type 0} → (A → Type 0) → List A → Type 0
-All P [] = Unit {0}
-All P (x ∷ xs) = P x × All P xs
+-- a window on one of the timers 1 to n
+abbrev pub WindowOf : ℕ → Window → Type 0
+WindowOf n w = w .timer ≤ n
 
 -- a motion of a machine with timers 1 to n
 pub record MotionOf (n : ℕ) (m : Motion) : Type 0 where
   pub few : length (m .windows) ≤ 16
-  pub timers : All (λ w. w .timer ≤ n) (m .windows)
+  pub timers : All (WindowOf n) (m .windows)
   pub restarted : m .restarts < 2 ^ n
 
 -- a chart of such a machine

@@ -1,0 +1,14 @@
+pub mod Lists
+pub mod Runs
+pub mod Graph
+pub mod Limits
+pub mod Tables
+pub mod Normal
+pub mod Good
+pub mod Empty
+pub mod Motions
+pub mod Sizes
+pub mod Places
+pub mod Joining
+pub mod Claims
+pub mod Worked
