@@ -1,18 +1,17 @@
 -- The empty chart's table of bounds is good, and its sizes are at most 1. Assumes nothing.
 use mathlib.Core.Path.{_≡_, sym, subst}
 use mathlib.Core.Bool.{false}
-use mathlib.Core.Logic.{_⊎_, inl, inr, _↔_}
+use mathlib.Core.Logic.{_⊎_, _↔_}
 use mathlib.Core.List.{[]}
 use Prim.Native.Nat.{ℕ, suc, _+_, _<_, _≤_}
 use native.Mathlib.Omega.{arith}
-use lib.IntN.{pos, natAbs}
+use lib.IntN.{pos}
 use Rattle.std.specs.declared.option.Option.the-variants.{Some}
-use Rattle.bound.specs.Differences.{Differences, zeroOf}
+use Rattle.bound.specs.Differences.{Differences}
 use Rattle.bound.specs.Meaning.{Meaning, Laws}
 use Rattle.runs.specs.Good.{Good}
 use Rattle.runs.specs.Empty.{base, EmptyTable, EmptyTo}
 use Rattle.runs.specs.Places.{allowedAt}
-use Rattle.runs.proofs.Bounds.{zero-is}
 use Rattle.runs.proofs.GoodEmpty.{touch, good-empty}
 use Rattle.runs.proofs.GoodRuns.{good-same}
 
@@ -37,7 +36,7 @@ module _ {B : Type 0} (m : Meaning B) (laws : Laws m) (zero : B) (is-zero : m .w
   empty-good =
       good-same (laws .ordered) n [] (EmptyTable D n) (allowedAt m W)
       (λ u v hu hv d. by-touch (λ u v b. (EmptyTable D n u v d ↔ m .allows b d))
-      (λ u v t. ((λ h. zero-is m laws zero is-zero d .1 (h t)), (λ h _. zero-is m laws zero is-zero d .0 h)))
+      (λ u v t. ((λ h. laws .written-allows false (pos 0) zero is-zero d .1 (h t)), (λ h _. laws .written-allows false (pos 0) zero is-zero d .0 h)))
       (λ u v t. ((λ h. laws .open-allows d), (λ h k. absurd (t k)))) u v hu hv)
       (λ u v. laws .lower (W u v)) (good-empty (laws .ordered) n)
 

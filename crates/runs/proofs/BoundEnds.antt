@@ -6,9 +6,9 @@ use Prim.Native.Nat.{ℕ, suc, _+_, _<_, _≤_}
 use native.Mathlib.Decide.{decLt}
 use native.Mathlib.Omega.{arith}
 use Rattle.bound.specs.Differences.{Differences}
-use Rattle.bound.specs.Meaning.{Meaning, Laws, Inside, tighterOf}
+use Rattle.bound.specs.Meaning.{Meaning, Laws, Inside}
 use Rattle.bound.proofs.Lawful.{tighter-both, tighter-either}
-use Rattle.runs.specs.Tables.{Within, IsJoined}
+use Rattle.runs.specs.Tables.{IsJoined}
 use Rattle.runs.specs.Places.{allowedAt}
 use Rattle.runs.specs.Joining.{JoinedTo}
 use Rattle.runs.proofs.Lists.{by-parts}

@@ -1,26 +1,22 @@
 -- The working of a join on tables of bounds: at first, a pivot, no sum refused, and the end. Assumes nothing.
 use mathlib.Core.Path.{_≡_}
-use mathlib.Core.Bool.{false}
 use mathlib.Core.List.{_++_}
 use Prim.Native.Nat.{ℕ, suc, _+_, _^_, _<_, _≤_}
 use native.Mathlib.Omega.{arith}
-use lib.IntN.{pos}
 use Rattle.std.specs.declared.option.Option.the-variants.{Some}
 use Rattle.bound.specs.Differences.{Differences, zeroOf}
 use Rattle.bound.specs.Meaning.{Meaning, Laws}
 use Rattle.runs.specs.Lists.{row}
 use Rattle.chart.specs.Charts.{Chart, ChartOf}
-use Rattle.runs.specs.Graph.{Never}
 use Rattle.runs.specs.Tables.{Table, IsJoined}
 use Rattle.runs.specs.Good.{Good}
 use Rattle.runs.specs.Places.{allowedAt, sizeAt, PivotedTo}
 use Rattle.runs.specs.Joining.{JoiningBounds, joinName}
 use Rattle.runs.proofs.Lists.{length-row}
-use Rattle.runs.proofs.Names.{join-names}
-use Rattle.runs.proofs.Bounds.{zero-no}
+use Rattle.runs.proofs.NodeNames.{join-names}
 use Rattle.runs.proofs.Sizes.{sized-first}
 use Rattle.runs.proofs.BoundPivot.{bound-pivot, sized-pivot, sum-answered}
-use Rattle.runs.proofs.GoodJoin.{joining-first, joining-step, joining-never, good-join}
+use Rattle.runs.proofs.GoodJoin.{joining-first, joining-step, good-join}
 
 module _ {B : Type 0} (m : Meaning B) (laws : Laws m) (n : ℕ) (c d : Chart) (S T : Table (m .differences)) where
   abbrev D : Differences
@@ -54,12 +50,6 @@ module _ {B : Type 0} (m : Meaning B) (laws : Laws m) (n : ℕ) (c d : Chart) (S
             (bound-pivot m laws M W (suc n + k) (omega arith) V pivot);
         sized = sized-pivot m laws M W (suc n + k) (omega arith) V pivot free (row (λ i. suc n + i) k) (2 ^ 40) (j .sized);
       }
-
-  module _ (zero : B) (is-zero : m .written false (pos 0) ≡ Some zero) where
-    -- NEVER: where the zero bound is not tighter than the next node's place, the joined chart never runs.
-    pub join-fails : (k : ℕ) → k ≤ n → (W : ℕ → ℕ → B) → JoiningBounds m n c d S T k W → m .tighter zero (W (suc n + k) (suc n + k)) ≡ false → Never D n (c ++ d)
-    join-fails k l W j fails =
-        joining-never (laws .ordered) n c d S T k (allowedAt m W) (j .joining) l (zero-no m laws zero (W (suc n + k) (suc n + k)) is-zero fails)
 
   -- JOIN: after a pivot on every node of the middle, the new names make the joined chart's table.
   pub join-last : Good D n c S → Good D n d T → ChartOf n d → (W : ℕ → ℕ → B) → JoiningBounds m n c d S T (suc n) W

@@ -18,7 +18,7 @@ use Rattle.runs.proofs.Pivot.{SameTable, same-settled}
 use Rattle.runs.specs.Sizes.{Mask, AllUsed, count, OnWay, SizedBy}
 use Rattle.runs.specs.Places.{allowedAt, sizeAt, PivotedTo}
 use Rattle.runs.proofs.Sizes.{Resized, sized-step, sized-bound, used-map}
-use Rattle.runs.proofs.Bounds.{sum-is, sum-some}
+use Rattle.runs.proofs.Bounds.{sum-is, sum-there}
 
 -- sizes are as they were in a table that allows the same
 sized-same : {D : Differences} (o : Ordered D) (N : ℕ) (V W : Table D) → SameTable D N V W → (ps : List ℕ) (S : ℕ) (size : ℕ → ℕ → ℕ)
@@ -121,4 +121,4 @@ module _ {B : Type 0} (m : Meaning B) (laws : Laws m) (N : ℕ) (W : ℕ → ℕ
       let few′ : length ps + 1 ≤ 9 = omega arith in
       let c : (length ps + 1) * 2 ^ 40 ≤ 9 * 2 ^ 40 = mul-le-mul-right (2 ^ 40) few′ in
       let d : 9 * 2 ^ 40 + 9 * 2 ^ 40 ≤ 2 ^ 46 = lit≤ tt in
-      sum-some m laws (W u p) (W p v) (omega arith)
+      sum-there m laws (W u p) (W p v) (omega arith)

@@ -1,14 +1,13 @@
--- From what a kind's functions answer to the sets that bounds allow: sums, and the test against the zero bound. Assumes nothing.
+-- From what a kind's functions answer to the sets that bounds allow: sums, and the tightest of several. Assumes nothing.
 use mathlib.Core.Path.{_≡_, refl}
-use mathlib.Core.Bool.{true, false}
 use mathlib.Core.Logic.{_⊎_, inl, inr, _↔_}
 use Prim.Native.Nat.{_+_, _^_, _≤_}
 use native.Mathlib.Omega.{arith}
-use lib.IntN.{pos}
 use Rattle.std.specs.declared.option.Option.{Option}
 use Rattle.std.specs.declared.option.Option.the-variants.{Some, None}
-use Rattle.bound.specs.Differences.{Differences, zeroOf}
+use Rattle.bound.specs.Differences.{Differences}
 use Rattle.bound.specs.Meaning.{Meaning, Laws}
+use Rattle.bound.proofs.Lawful.{sum-some}
 use Rattle.runs.specs.Tables.{Set, Within, Sum, TightestOf}
 use Rattle.runs.proofs.Sums.{sum-exact}
 
@@ -24,25 +23,12 @@ module _ {B : Type 0} (m : Meaning B) (laws : Laws m) where
       ((λ h. exact .1 (law .0 h)), (λ h. law .1 (exact .0 h)))
 
   -- a sum that is not too large is answered
-  pub sum-some : (a b : B) → m .sizeOf a + m .sizeOf b ≤ 2 ^ 46 → (s : B) × (m .sum a b ≡ Some s)
-  sum-some a b h = go (m .sum a b) refl
+  pub sum-there : (a b : B) → m .sizeOf a + m .sizeOf b ≤ 2 ^ 46 → (s : B) × (m .sum a b ≡ Some s)
+  sum-there a b h = go (m .sum a b) refl
     where
       go : (r : Option B) → m .sum a b ≡ r → (s : B) × (m .sum a b ≡ Some s)
       go (Some s) e = (s, e)
-      go None e = let k = laws .sum-none a b .0 e in absurd (omega (arith, laws .reach-enough))
-
-  -- whether a bound allows 0: the zero bound is tighter
-  pub zero-is : (z : B) → m .written false (pos 0) ≡ Some z → (d : D .Diff) → m .allows z d ↔ D .le d (zeroOf D)
-  zero-is z e d = laws .written-allows false (pos 0) z e d
-
-  pub zero-yes : (z b : B) → m .written false (pos 0) ≡ Some z → m .tighter z b ≡ true → m .allows b (zeroOf D)
-  zero-yes z b e t = laws .tighter-yes z b t (zeroOf D) (zero-is z e (zeroOf D) .1 (laws .ordered .le-refl (zeroOf D)))
-
-  pub zero-no : (z b : B) → m .written false (pos 0) ≡ Some z → m .tighter z b ≡ false → m .allows b (zeroOf D) → ⊥
-  zero-no z b e t h = go (laws .tighter-no z b t)
-    where
-      go : ((d : D .Diff) × m .allows z d × (m .allows b d → ⊥)) → ⊥
-      go (d, p, q) = q (laws .lower b (zeroOf D) d (zero-is z e d .0 p) h)
+      go None e = absurd (sum-some m laws a b (omega (arith, laws .reach-enough)) e)
 
 -- ── The tightest of a growing family ──
 

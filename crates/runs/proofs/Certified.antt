@@ -26,7 +26,7 @@ use Rattle.runs.specs.Worked.{NeverRuns}
 use Rattle.runs.proofs.Instants.{Instant, instants, ends}
 use Rattle.runs.proofs.Sound.{runDate, chain-kept}
 use Rattle.runs.proofs.Chains.{allowed-lower, never-runs}
-use Rattle.runs.proofs.Bounds.{zero-no}
+use Rattle.bound.proofs.Lawful.{zero-not-tighter}
 use Rattle.runs.proofs.ChainCodes.{Code, both, is-true, is-false, leads, plus, plus-some, boundOf, coded}
 use Rattle.runs.proofs.RunCodes.{reading, passes, endBy, timeBy, run-by}
 
@@ -134,7 +134,7 @@ never-by {B} {m} laws {n} {c} u ks h =
     go : (z b : Option B) → m .written false (pos 0) ≡ z → T (excludes m z b) → ((r : B) → b ≡ Some r → m .allows r nought) → ⊥
     go None b e x k = x
     go (Some z) None e x k = x
-    go (Some z) (Some b) e x k = zero-no m laws z b e (is-false (m .tighter z b) x) (k b refl)
+    go (Some z) (Some b) e x k = zero-not-tighter m laws z b e (is-false (m .tighter z b) x) (k b refl)
 
 module _ {B : Type 0} (m : Meaning B) (laws : Laws m) (n : ℕ) (c : Chart) where
   abbrev D : Differences

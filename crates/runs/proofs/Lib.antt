@@ -27,13 +27,12 @@ pub mod MotionChains
 pub mod MotionRuns
 pub mod GoodMotion
 pub mod GoodJoin
-pub mod Names
+pub mod NodeNames
 pub mod Bounds
 pub mod BoundPivot
 pub mod Normals
 pub mod BoundEmpty
 pub mod WindowBounds
-pub mod BoundMotion
 pub mod BoundEnds
 pub mod BoundJoin
 pub mod MotionSizes

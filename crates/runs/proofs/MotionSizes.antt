@@ -7,7 +7,7 @@ use lib.Dec.{lit≤}
 use lib.IntN.{ℤ, natAbs}
 use Rattle.std.specs.declared.option.Option.the-variants.{Some}
 use Rattle.bound.specs.Meaning.{Meaning, Laws}
-use Rattle.runs.proofs.Bounds.{sum-some}
+use Rattle.runs.proofs.Bounds.{sum-there}
 
 -- the most that a written bound's size can be, and a place's by way of one
 abbrev pub writtenMost : ℕ
@@ -23,7 +23,7 @@ module _ {B : Type 0} (m : Meaning B) (laws : Laws m) where
   -- a sum of sizes up to x and y, where x + y is within every reach
   sum-within : (x y : ℕ) → x + y ≤ 2 ^ 46 → (a b : B) → m .sizeOf a ≤ x → m .sizeOf b ≤ y
       → (s : B) × (m .sum a b ≡ Some s) × (m .sizeOf s ≤ x + y)
-  sum-within x y enough a b ha hb = go (sum-some m laws a b (omega arith))
+  sum-within x y enough a b ha hb = go (sum-there m laws a b (omega arith))
     where
       go : ((s : B) × (m .sum a b ≡ Some s)) → (s : B) × (m .sum a b ≡ Some s) × (m .sizeOf s ≤ x + y)
       go (s, e) = (s, e, let h = laws .sum-size a b s e in omega arith)

@@ -1,22 +1,21 @@
 -- The theorems that the public functions carry, from the lemmas. Assumes nothing.
 use mathlib.Core.Path.{_≡_, refl}
 use mathlib.Core.Bool.{true, false}
-use mathlib.Core.Logic.{_↔_, _⊎_, inl, inr}
-use mathlib.Core.List.{List, [], _∷_}
-use Prim.Native.Nat.{ℕ, suc, _+_, _<_, _≤_}
+use mathlib.Core.Logic.{_⊎_, inl, inr}
+use mathlib.Core.List.{[], _∷_}
+use Prim.Native.Nat.{ℕ, suc, _+_, _<_}
 use native.Mathlib.Omega.{arith}
 use Rattle.bound.specs.Differences.{Differences, Same, Ordered, zeroOf, minus}
 use Rattle.bound.specs.Meaning.{Meaning, Laws}
 use Rattle.bound.proofs.Solver.{_⊟_, nil, v0, v1, v2, v3, le-same, same-from2}
-use Rattle.chart.specs.Charts.{Chart}
-use Rattle.runs.specs.Runs.{Reading, Run, HasRun}
-use Rattle.runs.specs.Graph.{Never, node}
+use Rattle.runs.specs.Runs.{Reading}
+use Rattle.runs.specs.Graph.{node}
 use Rattle.runs.specs.Limits.{Name, NameOf, Before}
-use Rattle.runs.specs.Tables.{Sum, Lower, Closed, Satisfies, Pivoted, Into}
+use Rattle.runs.specs.Tables.{Pivoted, Into}
 use Rattle.runs.specs.Places.{allowedAt, PivotedTo}
-use Rattle.runs.specs.Normal.{tableOf, IsLimit}
-use Rattle.runs.specs.Good.{Shows, Good}
-use Rattle.runs.specs.Claims.{PartialSolutionsExtend, Reaches, ClosedTablesReached, PivotKeeps, PivotsKeep, NewNode, NewNodeCloses, RunDates, RunsKeepChains, RunsExactly, Tells, TablesTell, FailsFirst, Decides, LimitsTellWithin, Answered}
+use Rattle.runs.specs.Normal.{tableOf}
+use Rattle.runs.specs.Good.{Shows}
+use Rattle.runs.specs.Claims.{PartialSolutionsExtend, ClosedTablesReached, PivotsKeep, NewNodeCloses, RunsKeepChains, RunsExactly, TablesTell, FailsFirst, LimitsTellWithin, Answered}
 use Rattle.runs.proofs.Sums.{sum-map}
 use Rattle.runs.proofs.Solve.{solve}
 use Rattle.runs.proofs.Rename.{reached}

@@ -4,7 +4,6 @@ use mathlib.Core.Bool.{true, false}
 use mathlib.Core.Logic.{_↔_, _⊎_}
 use mathlib.Core.List.{List}
 use Prim.Native.Nat.{ℕ, suc, _+_, _^_, _<_, _≤_}
-use lib.IntN.{pos, natAbs, ℤ}
 use Rattle.std.specs.declared.option.Option.the-variants.{Some}
 use Rattle.bound.specs.Differences.{Differences, Same, zeroOf, minus}
 use Rattle.bound.specs.Meaning.{Meaning}
@@ -13,7 +12,7 @@ use Rattle.chart.specs.Charts.{Chart}
 use Rattle.runs.specs.Runs.{Reading, Run, Joins, HasRun}
 use Rattle.runs.specs.Graph.{Date, node, Chain, Allowed, Never}
 use Rattle.runs.specs.Limits.{Name, NameOf, Before, Keeps, Sharp}
-use Rattle.runs.specs.Tables.{Sum, Settled, Closed, Satisfies, Entry, Nodes, Pairwise, Into, IsStar, KeepsDirect}
+use Rattle.runs.specs.Tables.{Sum, Settled, Closed, Satisfies, Entry, Nodes, Pairwise, IsStar, KeepsDirect}
 use Rattle.runs.specs.Places.{allowedAt, PivotedTo}
 use Rattle.runs.specs.Normal.{tableOf, Normalised, IsLimit}
 use Rattle.runs.specs.Good.{Shows, Good}

@@ -2,6 +2,7 @@ pub mod Lists
 pub mod Runs
 pub mod Graph
 pub mod Limits
+pub mod Search
 pub mod Tables
 pub mod Normal
 pub mod Good

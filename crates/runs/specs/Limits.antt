@@ -5,13 +5,12 @@ use Prim.Native.Nat.{ℕ, _+_, _≤_, _<_}
 use Rattle.bound.specs.Differences.{Differences, minus}
 use Rattle.bound.specs.Meaning.{Meaning, Inside}
 use Rattle.chart.specs.Charts.{Chart}
+use Rattle.runs.specs.declared.names.Name.{Name as Declared}
 use Rattle.runs.specs.Runs.{Reading, reads, Joins}
 
-pub record Name : Type 0 where
-  pub a : ℕ
-  pub b : ℕ
-  pub c : ℕ
-  pub d : ℕ
+-- a limit's name, as the code holds it
+abbrev pub Name : Type 0
+Name = Declared
 
 -- an equal pair is named 0 0, and 0 0 0 0 is no limit
 pub record Proper (a b c d : ℕ) : Type 0 where

@@ -1,9 +1,16 @@
 // What charts do in a kind: runs, the constraint graph, limits, and the theory of their tables. The
 // functions of this crate compute nothing. Each carries one theorem in its contract, so that the check
 // fails where its proof is missing: all but the worked charts for every kind of bound, from the laws alone.
+// The name of a limit is declared here, for the code and for the definitions.
 ghost use Rattle.runs.specs.Claims.{PartialSolutionsExtend, ClosedTablesReached, PivotsKeep, NewNodeCloses, RunsKeepChains, RunsExactly, TablesTell, LimitsTellWithin, Answered};
 ghost use Rattle.runs.specs.Worked.{WorkedCharts};
+
+mod names;
+
 use bound::Bound;
+pub use names::Name;
+pub use names::NameDebug;
+pub use names::NamePartialEq;
 
 // Dates of some nodes that keep a closed table two by two go on to dates of all nodes.
 pub fn partial_solutions_extend<B: Bound>() -> u8
