@@ -1,4 +1,5 @@
 pub mod Strides
+pub mod ChartTables
 pub mod EmptyTables
 pub mod Turns
 pub mod WindowTurns

@@ -33,6 +33,7 @@ use Rattle.table.specs.declared.found.Found.{Found}
 use Rattle.table.specs.declared.found.Found.the-variants.{Runs, Never, Large}
 use Rattle.table.specs.Finds.{Finds}
 use Rattle.table.specs.Star.{Settled, toNew, fromNew, SpreadTo, TripAllows, StarFits, withNew, settledCell, newCell}
+use Rattle.table.proofs.ChartTables.{chart-table}
 use Rattle.table.proofs.NewTables.{motion-bounds, into-small, onward-small, best-small, at-old, spread-is}
 
 -- a node keeps its name, or is the new now
@@ -245,6 +246,6 @@ module _ {B : Type 0} (m : Meaning B) (laws : Laws m) (nil : B) (is-zero : m .wr
 
     -- FINDS: what is found from the bounds of the new now, in the words of charts
     pub finds : MotionOf n motion → (next : List B) (r : Found) → Settled m nil n motion table after next r → Finds m n (c ++ motion ∷ []) next r
-    finds of next Runs (trips, rows, sizes) = (rows-good of trips next rows, sizes)
+    finds of next Runs (trips, rows, sizes) = chart-table m laws n (c ++ motion ∷ []) next (rows-good of trips next rows) sizes
     finds of next Never (i, h, fails) = trip-never i h fails
     finds of next Large (trips, (u, v, hu, hv, big)) = place-large of trips u v hu hv big

@@ -13,10 +13,17 @@ use Rattle.table.specs.declared.found.Found.{Found}
 use Rattle.table.specs.declared.found.Found.the-variants.{Runs, Never, Large}
 use Rattle.table.specs.Cells.{Small}
 
+-- the chart has a run, and the table is its normalised table, good to go on from, with no size above 2^40
+pub record ChartTable {B : Type 0} (m : Meaning B) (n : ℕ) (c : Chart) (table : List B) : Type 0 where
+  pub runs : HasRun (m .differences) n c
+  pub normalised : normal.Normalised m n c table
+  pub good : Good (m .differences) n c (tableOf m n table)
+  pub small : Small m (2 * n + 2) table
+
 module _ {B : Type 0} (m : Meaning B) (n : ℕ) (longer : Chart) where
-  -- the longer chart runs and the table is its own; or it never runs; or it runs and a size in its normalised table is above 2^40
+  -- the table is the longer chart's; or that chart never runs; or it runs and a size in its normalised table is above 2^40
   abbrev pub Finds : (after : List B) → Found → Type 0
-  Finds after Runs = Good (m .differences) n longer (tableOf m n after) × Small m (2 * n + 2) after
+  Finds after Runs = ChartTable m n longer after
   Finds after Never = graph.Never (m .differences) n longer
   Finds after Large = HasRun (m .differences) n longer × normal.Large m n longer
 

@@ -7,9 +7,8 @@ ghost use mathlib.Core.List.{[]};
 ghost use lib.ListN.{length};
 ghost use Rattle.std.specs.declared.option.Option.the-variants.{Some};
 ghost use Rattle.runs.specs.Empty.{base};
-ghost use Rattle.runs.specs.Good.{Good};
-ghost use Rattle.runs.specs.Normal.{tableOf};
-ghost use Rattle.table.specs.Cells.{Only, Holds, Rows, Beyond, Small, emptyCell};
+ghost use Rattle.table.specs.Cells.{Only, Holds, Rows, Beyond, emptyCell};
+ghost use Rattle.table.specs.Finds.{ChartTable};
 use crate::cells::row_start;
 use bound::Bound;
 use bound::zero;
@@ -48,8 +47,7 @@ fn empty_row<B: Bound>(table: &mut [B], start: usize, n: usize, u: usize, zero: 
 pub fn empty<B: Bound>(table: &mut [B], timers: Timers)
     requires { ⌜ (2 * timers .count + 2) * (2 * timers .count + 2) ≤ length (now table) ⌝ }
     ensures cells { λ _. ⌜ ((zero : B) → meaning .written false (pos 0) ≡ Some zero → Rows meaning (2 * timers .count + 2) (2 * timers .count + 2) (emptyCell meaning zero (timers .count)) (now (table .exit))) ⌝ }
-    ensures good { λ _. ⌜ Good (meaning .differences) (timers .count) [] (tableOf meaning (timers .count) (now (table .exit))) ⌝ }
-    ensures small { λ _. ⌜ Small meaning (2 * timers .count + 2) (now (table .exit)) ⌝ }
+    ensures its { λ _. ⌜ ChartTable meaning (timers .count) [] (now (table .exit)) ⌝ }
     ensures beyond { λ _. ⌜ Beyond meaning ((2 * timers .count + 2) * (2 * timers .count + 2)) (now (table .entry)) (now (table .exit)) ⌝ }
 {
     let n = timers.count as usize;

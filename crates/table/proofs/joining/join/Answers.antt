@@ -1,6 +1,8 @@
 use mathlib.Core.Path.{refl, _∙_}
 use native.Mathlib.Omega.{arith}
+use mathlib.Core.List.{_++_}
 use Rattle.table.specs.Cells.{at}
+use Rattle.table.proofs.ChartTables.{chart-table}
 use Rattle.table.proofs.JoinTables.{ends-small, ends-first, joined-good, joined-large, outer-small}
 use Rattle.table.proofs.joining.join.Needs as need
 
@@ -54,13 +56,13 @@ returns g c =
     let other = c .args .other .now in
     let next = c .take-out .last .table in
     record {
-      finds = λ a b good good′ of. (
-        joined-good m laws n table other (c .close .last .work) a b good good′ of
-            (c .close .ensures .closed (c .if-not-close .left) a b table other
-            (ends-first m n table other (c .lay-out .last .work) (c .lay-out .ensures .cells) laws (c .pre .sizes .0) (c .pre .sizes .1) a b good good′))
-            next (c .take-out .ensures .cells),
-        outer-small m n (c .close .last .work) next (c .take-out .ensures .cells) (c .all-small .ensures .small (c .if-not-all-small .left)),
-      );
+      finds = λ a b good good′ of.
+          chart-table m laws n (a ++ b) next
+          (joined-good m laws n table other (c .close .last .work) a b good good′ of
+          (c .close .ensures .closed (c .if-not-close .left) a b table other
+          (ends-first m n table other (c .lay-out .last .work) (c .lay-out .ensures .cells) laws (c .pre .sizes .0) (c .pre .sizes .1) a b good good′))
+          next (c .take-out .ensures .cells))
+          (outer-small m n (c .close .last .work) next (c .take-out .ensures .cells) (c .all-small .ensures .small (c .if-not-all-small .left)));
       kept = tt;
       beyond = c .take-out .ensures .beyond;
       lent = λ i h. c .close .ensures .beyond i h ∙ c .lay-out .ensures .beyond i h;

@@ -1,8 +1,10 @@
 use Prim.Native.Nat.{_+_, _*_}
 use mathlib.Core.Path.{subst, _∙_}
+use mathlib.Core.List.{[]}
 use native.Mathlib.Omega.{arith}
 use Rattle.table.specs.Cells.{Rows, emptyCell}
 use Rattle.table.proofs.Strides.{rows-more, row-beyond}
+use Rattle.table.proofs.ChartTables.{chart-table}
 use Rattle.table.proofs.EmptyTables.{good, small}
 use Rattle.table.proofs.opening.empty.Needs as need
 
@@ -29,7 +31,6 @@ returns g c =
     let rows : Rows m (2 * n + 2) (2 * n + 2) (emptyCell m z n) t = λ u v hu hv. c .loop-u .inv .0 u v (omega arith) hv in
     record {
       cells = λ zero e. subst (λ x. Rows m (2 * n + 2) (2 * n + 2) (emptyCell m x n) t) (cc (c .zero-zero .ensures, e)) rows;
-      good = good m laws z (c .zero-zero .ensures) n t rows;
-      small = small m laws z (c .zero-zero .ensures) n t rows;
+      its = chart-table m laws n [] t (good m laws z (c .zero-zero .ensures) n t rows) (small m laws z (c .zero-zero .ensures) n t rows);
       beyond = c .loop-u .inv .1;
     }
