@@ -18,6 +18,8 @@ WORD = re.compile(r"(?<![^\s(){}.;,@\"«»⟨⟩])[^\s(){}.;,@\"«»⟨⟩]+")
 NAME = re.compile(r"[A-Za-z_][A-Za-z0-9_']*(?:-[A-Za-z0-9_']+)*")
 ANSWERS = re.compile(r"/proofs/.+/(Answers|Invariants)\.antt$")
 
+HEAD = r"(?m:^(?:abbrev )?(?:pub )?[A-Za-z][^\s(){}.;,@\"]*(?= : goal\.| (?:g )?[cl]\b))"
+
 # Two words of one spelling: which of them gets another name.
 APART = {
     "allHold": "holds_all",
@@ -91,8 +93,8 @@ def labels(text, names):
             word = re.sub(rf"(?<![A-Za-z0-9_]){re.escape(old)}(?![A-Za-z0-9_])", new, word)
         return word
     text = re.sub(r"(?<![^\s(){},;@])((?:c|g|l|goal|w)\.)([^\s(){}.;,@\"]+)", lambda m: m[1] + one(m[2]), text)
-    text = re.sub(r"(?m)^((?:abbrev )?(?:pub )?)([A-Za-z][^\s(){}.;,@\"]*)(?= : goal\.| g [cl]\b)", lambda m: m[1] + one(m[2]), text)
-    return text
+    text = re.sub(HEAD, lambda m: one(m[0]), text)
+    return re.sub(r"(?<=Goals\.\{)[^}]*(?=\})|(?<=\| )[A-Z]?[^\s(){}.;,@\"]+(?= \w+ ↦)", lambda m: one(m[0]), text)
 
 
 def main():
@@ -117,7 +119,18 @@ def main():
         for code, part in ghost_parts(texts[p]):
             if code:
                 used.update(m[0] for m in WORD.finditer(part))
-    table = {w: renamed(w) for w in used if own(w)}
+    crates = {p.parts[1] for p in files}
+    lent = set()
+    for p in files:
+        for m in re.finditer(r"\buse ([\w.]+?)\.?\{([^}]*)\}", texts[p]):
+            path = m[1].split(".")
+            if not (path[0] == "Rattle" and len(path) > 1 and path[1] in crates):
+                lent.update(w.split(" as ")[0].strip() for w in m[2].split(","))
+    table = {w: renamed(w) for w in used if own(w) and w not in lent}
+    declared = {m[1] for p in lemmas for m in re.finditer(r"(?m)^ *(?:abbrev )?(?:pub )?([^\s(){}.;,@\"]+) :", texts[p])}
+    for w in sorted(lent & declared):
+        if own(w):
+            print("declared here and lent by a library:", w)
 
     # what falls together
     back = collections.defaultdict(set)
@@ -135,7 +148,7 @@ def main():
     for p in files:
         if p in answers:
             text = labels(texts[p], names)
-            kept = re.compile(r"(?<![^\s(){},;@])((?:c|g|l|goal|w)\.)[^\s(){}.;,@\"]+|(?m:^(?:abbrev )?(?:pub )?[A-Za-z][^\s(){}.;,@\"]*(?= : goal\.| g [cl]\b))")
+            kept = re.compile(r"(?<![^\s(){},;@])((?:c|g|l|goal|w)\.)[^\s(){}.;,@\"]+|" + HEAD)
             out, at = [], 0
             for m in kept.finditer(text):
                 out += [turn(text[at:m.start()]), m[0]]

@@ -1,5 +1,5 @@
 -- A board whose chart may become a longer one, by what the working finds. Assumes nothing.
-use Rattle.std.proofs.Common.{◌≡◌, ℕ, ◌+◌, ◌*◌, ◌^◌, ◌<◌, ◌≤◌, cond, ◌⊎◌, List, [], ◌∷◌, ◌++◌, length, is_ok, Ok, Err, Result, sym, refl, ap, ◌∙◌, subst, subst₂, inl, inr, arith, length_append}
+use Rattle.std.proofs.Common.{◌≡◌, ℕ, ◌+◌, ◌*◌, ◌^◌, ◌<◌, ◌≤◌, cond, ◌⊎◌, List, [], ◌∷◌, ◌++◌, length, is_ok, Ok, Err, Result, sym, refl, ap, ◌∙◌, subst, subst₂, inl, inr, arith, length-append}
 use Rattle.bound.specs.Meaning.{Meaning, Laws}
 use Rattle.chart.specs.declared.types.Timers.{Timers}
 use Rattle.chart.specs.declared.types.MotionFault.{MotionFault}
@@ -99,7 +99,7 @@ module _ {B : Type 0} (m : Meaning B) (laws : Laws m) (n : Timers) (h : Header) 
   pub motion_long : 10 ^ 9 ≤ h.count → (s : Standing) → StandsFor m h before s → MotionDone m (length work) bytes h before before work work (Err fault.Count) s
   motion_long long =
       done h before work (Err fault.Count) (λ c holds.
-      record { answer = inr (λ few. omega (arith, length_append c (motion ∷ []), holds.count), refl); stands = holds; table = refl; lent = refl })
+      record { answer = inr (λ few. omega (arith, length-append c (motion ∷ []), holds.count), refl); stands = holds; table = refl; lent = refl })
 
   module _ (h' : Header) (after work' : List B) (f : Found) (r : Result (Unit {0}) BoardFault) (few : h.count < 10 ^ 9) (of : MotionOf n.count motion) (room : length after ≡ length before)
       (finds : (c : Chart) → StateIs m h.state n c before → Finds m n.count (c ++ motion ∷ []) after f) (kept : Kept before after f) (beyond : Beyond m (places n.count) before after)
@@ -107,17 +107,17 @@ module _ {B : Type 0} (m : Meaning B) (laws : Laws m) (n : Timers) (h : Header) 
     one_more : (c : Chart) → Holds m h before n c → Grown m n c (c ++ motion ∷ []) h' before after r
     one_more c holds =
         subst₂ (λ (x : Header) (y : Result (Unit {0}) BoardFault). Grown m n c (c ++ motion ∷ []) x before after y) (sym next) (sym answer)
-        (grown_by m laws n (c ++ motion ∷ []) c h before after 1 holds (all_append (MotionOf n.count) c (motion ∷ []) holds.fits (of, tt)) (length_append c (motion ∷ [])) room
+        (grown_by m laws n (c ++ motion ∷ []) c h before after 1 holds (all_append (MotionOf n.count) c (motion ∷ []) holds.fits (of, tt)) (length-append c (motion ∷ [])) room
         (never_first m.differences c (motion ∷ [])) beyond f (finds c holds.state) kept)
 
     settled : (c : Chart) → Holds m h before n c → (q : Result (Unit {0}) BoardFault) → Grown m n c (c ++ motion ∷ []) h' before after q
         → ReadDone m h' before after work work' (with_used used q) n c (Ok (motion, used))
     settled c holds (Ok x) g =
-        record { answer = inl (omega (arith, length_append c (motion ∷ []), holds.count), inr (g.fine refl, refl)); stands = g.stands; table = g.left; lent = clean }
+        record { answer = inl (omega (arith, length-append c (motion ∷ []), holds.count), inr (g.fine refl, refl)); stands = g.stands; table = g.left; lent = clean }
     settled c holds (Err e) g =
         let p = g.refused e refl in
         record {
-          answer = inl (omega (arith, length_append c (motion ∷ []), holds.count), inl (p.1, ap Err p.0));
+          answer = inl (omega (arith, length-append c (motion ∷ []), holds.count), inl (p.1, ap Err p.0));
           stands = g.stands;
           table = g.left;
           lent = subst (λ (x : BoardFault). RefusedWork m (work_places n.count) work work' x) (sym p.0) clean;
@@ -142,7 +142,7 @@ module _ {B : Type 0} (m : Meaning B) (laws : Laws m) (n k : Timers) (h e : Head
   pub join_long : 10 ^ 9 < h.count + e.count → (s t : Standing) → StandsFor m h before s → StandsFor m e other t → JoinDone m (length work) h before before work work (Err fault.Count) s t
   join_long long =
       both_done h before work (Err fault.Count) (λ c d holds holds'.
-      record { answer = inl (same, inl (fits, inr (λ few. omega (arith, length_append c d, holds.count, holds'.count), refl))); stands = holds; table = refl; lent = refl })
+      record { answer = inl (same, inl (fits, inr (λ few. omega (arith, length-append c d, holds.count, holds'.count), refl))); stands = holds; table = refl; lent = refl })
 
   module _ (h' : Header) (after work' : List B) (f : Found) (r : Result (Unit {0}) BoardFault) (few : h.count + e.count ≤ 10 ^ 9) (room : length after ≡ length before)
       (finds : (c d : Chart) → StateIs m h.state n c before → StateIs m e.state n d other → ChartOf n.count d → Finds m n.count (c ++ d) after f)
@@ -159,14 +159,14 @@ module _ {B : Type 0} (m : Meaning B) (laws : Laws m) (n k : Timers) (h e : Head
         let of = subst (λ (x : ℕ). ChartOf x d) (sym same) holds'.fits in
         subst₂ (λ (x : Header) (y : Result (Unit {0}) BoardFault). Grown m n c (c ++ d) x before after y) (sym next) (sym answer)
         (grown_by m laws n (c ++ d) c h before after e.count holds (all_append (MotionOf n.count) c d holds.fits of)
-        (length_append c d ∙ ap (λ (x : ℕ). length c + x) (sym holds'.count)) room
+        (length-append c d ∙ ap (λ (x : ℕ). length c + x) (sym holds'.count)) room
         (never_first m.differences c d) beyond f (finds c d holds.state (other_state e.state d holds'.state) of) kept)
 
     settled_both : (c d : Chart) → Holds m h before n c → Holds m e other k d → (q : Result (Unit {0}) BoardFault) → Grown m n c (c ++ d) h' before after q
         → JoinDone m (length work) h' before after work work' q (charted n c) (charted k d)
     settled_both c d holds holds' (Ok x) g =
         record {
-          answer = inl (same, inl (fits, inl (omega (arith, length_append c d, holds.count, holds'.count), inr (g.fine refl, refl))));
+          answer = inl (same, inl (fits, inl (omega (arith, length-append c d, holds.count, holds'.count), inr (g.fine refl, refl))));
           stands = g.stands;
           table = g.left;
           lent = clean;
@@ -174,7 +174,7 @@ module _ {B : Type 0} (m : Meaning B) (laws : Laws m) (n k : Timers) (h e : Head
     settled_both c d holds holds' (Err x) g =
         let p = g.refused x refl in
         record {
-          answer = inl (same, inl (fits, inl (omega (arith, length_append c d, holds.count, holds'.count), inl (p.1, ap Err p.0))));
+          answer = inl (same, inl (fits, inl (omega (arith, length-append c d, holds.count, holds'.count), inl (p.1, ap Err p.0))));
           stands = g.stands;
           table = g.left;
           lent = subst (λ (x : BoardFault). RefusedWork m (work_places n.count) work work' x) (sym p.0) clean;

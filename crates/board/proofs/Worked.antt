@@ -1,5 +1,5 @@
 -- What is found where a chart is not worked on, and what a work table holds after the working. Assumes nothing.
-use Rattle.std.proofs.Common.{◌≡◌, ℕ, ◌+◌, ◌*◌, ◌<◌, ◌≤◌, List, ◌++◌, refl, ◌∙◌, mul_le_mul_left, arith}
+use Rattle.std.proofs.Common.{◌≡◌, ℕ, ◌+◌, ◌*◌, ◌<◌, ◌≤◌, List, ◌++◌, refl, ◌∙◌, mul-le-mul_left, arith}
 use Rattle.bound.specs.Meaning.{Meaning}
 use Rattle.chart.specs.declared.types.Timers.{Timers}
 use Rattle.chart.specs.Charts.{Chart}
@@ -14,7 +14,7 @@ use Rattle.board.specs.Holding.{StateIs}
 
 -- a motion's working has places enough
 pub enough : (n : ℕ) → 6 * n + 6 ≤ work_places n
-enough n = let h = mul_le_mul_left {m = 2} {n = 3 * n + 3} (3 * n + 3) (omega arith) in omega (arith, h)
+enough n = let h = mul-le-mul_left {m = 2} {n = 3 * n + 3} (3 * n + 3) (omega arith) in omega (arith, h)
 
 module _ {B : Type 0} (m : Meaning B) (n : Timers) (c d : Chart) (table other : List B) where
   -- a chart that does not run goes on not to run

@@ -1,8 +1,8 @@
 -- A chart is read exactly where it is laid out. Assumes nothing.
-use Rattle.std.proofs.Common.{◌≡◌, ℕ, zero, suc, ◌+◌, ◌-◌, ◌<◌, ◌≤◌, Bool, true, false, cond, eqb, ltb, ◌⊎◌, List, [], ◌∷◌, ◌++◌, length, get_or, take, drop, Some, None, Ok, Err, Option, Result, sym, refl, ap, ◌∙◌, subst, inl, inr, ⊎_elim, add_one, arith, lit<, length_drop, length_take, drop_cons, get_or_take}
-use lib.Seq.{drop_append_seam}
-use Rattle.std.proofs.lemmas.List.{drop_drop, drop_all, get_or_past}
-use Rattle.std.proofs.lemmas.Bool.{cond_false, le_ltb, lt_leb, eqb_true, cases_lt}
+use Rattle.std.proofs.Common.{◌≡◌, ℕ, zero, suc, ◌+◌, ◌-◌, ◌<◌, ◌≤◌, Bool, true, false, cond, eqb, ltb, ◌⊎◌, List, [], ◌∷◌, ◌++◌, length, get_or, take, drop, Some, None, Ok, Err, Option, Result, sym, refl, ap, ◌∙◌, subst, inl, inr, ⊎_elim, add-one, arith, lit<, length-drop, length-take, drop-cons, get_or-take}
+use lib.Seq.{drop-append_seam}
+use Rattle.std.proofs.lemmas.List.{drop-drop, drop_all, get_or_past}
+use Rattle.std.proofs.lemmas.Bool.{cond-false, le-ltb, lt-leb, eqb-true, cases_lt}
 use Rattle.std.specs.Result.{result_map_both}
 use Rattle.chart.specs.declared.types.Timers.{Timers}
 use Rattle.chart.specs.declared.types.MotionFault.{MotionFault}
@@ -48,14 +48,14 @@ module _ (n : Timers) (part : List ℕ) (small : (i : ℕ) → get_or part i 0 <
   motions_laid (suc most) at k ms e h =
       ⊎_elim
       (λ (inside : at < length part).
-      let q = onward_back k at (motion_of n (drop at part)) (λ used. motions_from most n part (at + used) (k + 1)) ms (sym (cond_false _ _ _ (lt_leb (length part) at inside)) ∙ e) in
+      let q = onward_back k at (motion_of n (drop at part)) (λ used. motions_from most n part (at + used) (k + 1)) ms (sym (cond-false _ _ _ (lt-leb (length part) at inside)) ∙ e) in
       let m = q.0 in
       let used = q.1 in
       let l = laid_from_read n (drop at part) (small_after part small at) m used q.3 in
       let s = laid_sized n.count (drop at part) m used l in
       let ih = motions_laid most (at + used) (k + 1) q.2 q.4 (omega arith) in
       let rest : l.rest ≡ chart_bytes q.2 =
-      sym (drop_append_seam (motion_bytes m) l.rest) ∙ ap (drop (length (motion_bytes m))) (sym l.whole) ∙ ap (λ (u : ℕ). drop u (drop at part)) (sym l.size) ∙ drop_drop used at part ∙ ih.0 in
+      sym (drop-append_seam (motion_bytes m) l.rest) ∙ ap (drop (length (motion_bytes m))) (sym l.whole) ∙ ap (λ (u : ℕ). drop u (drop at part)) (sym l.size) ∙ drop-drop used at part ∙ ih.0 in
       subst (Lies at) (sym q.5) (l.whole ∙ ap (λ (xs : List ℕ). motion_bytes m ++ xs) rest, (l.fits, ih.1)))
       (λ (past : length part ≤ at). laid_end at ms (sym (motions_end (suc most) n part at k past) ∙ e) past)
       (cases_lt at (length part))
@@ -64,15 +64,15 @@ module _ (n : Timers) (part : List ℕ) (small : (i : ℕ) → get_or part i 0 <
   pub motions_read : (ms : Chart) (most at k : ℕ) → Lies at ms → length part ≤ at + most → motions_from most n part at k ≡ Ok ms
   motions_read [] most at k l h =
       let e = ap length l.0 in
-      let d = length_drop at part in
+      let d = length-drop at part in
       motions_end most n part at k (omega arith)
   motions_read (m ∷ ms) most at k l h =
       let laid : Laid n.count (drop at part) m (length (motion_bytes m)) = record { rest = chart_bytes ms; whole = l.0; size = refl; fits = l.1.0 } in
       let s = laid_sized n.count (drop at part) m (length (motion_bytes m)) laid in
-      let d = length_drop at part in
+      let d = length-drop at part in
       let used = length (motion_bytes m) in
       let step = motions_step most n part at k (omega arith) (omega arith) (Ok (m, used)) (read_from_laid n (drop at part) m used laid) in
-      let tail : drop (at + used) part ≡ chart_bytes ms = sym (drop_drop used at part) ∙ ap (drop used) l.0 ∙ drop_append_seam (motion_bytes m) (chart_bytes ms) in
+      let tail : drop (at + used) part ≡ chart_bytes ms = sym (drop-drop used at part) ∙ ap (drop used) l.0 ∙ drop-append_seam (motion_bytes m) (chart_bytes ms) in
       let ih = motions_read ms (most - 1) (at + used) (k + 1) (tail, l.1.1) (omega arith) in
       step ∙ ap (result_map_both (λ ns. m ∷ ns) (λ e. e)) ih
 
@@ -82,11 +82,11 @@ kind_back : (byte : ℕ) (k : Kind) → kind_of byte ≡ Some k → kind_byte k 
 kind_back byte k e = first (eqb byte 1) refl e
   where
     second : (b : Bool) → eqb byte 2 ≡ b → cond b (Some Edge) None ≡ Some k → kind_byte k ≡ byte
-    second true q h = let z : Edge ≡ k = cc in ap kind_byte (sym z) ∙ sym (eqb_true byte 2 q)
+    second true q h = let z : Edge ≡ k = cc in ap kind_byte (sym z) ∙ sym (eqb-true byte 2 q)
     second false q h = absurd (grind arith)
 
     first : (b : Bool) → eqb byte 1 ≡ b → cond b (Some Tick) (cond (eqb byte 2) (Some Edge) None) ≡ Some k → kind_byte k ≡ byte
-    first true q h = let z : Tick ≡ k = cc in ap kind_byte (sym z) ∙ sym (eqb_true byte 1 q)
+    first true q h = let z : Tick ≡ k = cc in ap kind_byte (sym z) ∙ sym (eqb-true byte 1 q)
     first false q h = second (eqb byte 2) refl h
 
 kind_forth : (k : Kind) → kind_of (kind_byte k) ≡ Some k
@@ -104,15 +104,15 @@ head_parts (Some k) (Some t) h e =
 head_laid : (part : List ℕ) (h : Head) → head_of part ≡ Ok h → part ≡ kind_byte h.kind ∷ h.timers.count ∷ drop 2 part
 head_laid part h e =
     let long = head_long part h e in
-    let p = head_parts (kind_of (get_or part 0 0)) (timers_of (get_or part 1 0)) h (sym (cond_false _ _ _ (le_ltb (length part) 2 long)) ∙ e) in
+    let p = head_parts (kind_of (get_or part 0 0)) (timers_of (get_or part 1 0)) h (sym (cond-false _ _ _ (le-ltb (length part) 2 long)) ∙ e) in
     let k = kind_back (get_or part 0 0) h.kind p.0 in
     let t = timers_back (get_or part 1 0) h.timers p.1 in
-    drop_cons part 0 0 (omega arith) ∙ ap (λ (xs : List ℕ). get_or part 0 0 ∷ xs) (drop_cons part 1 0 (omega arith))
+    drop-cons part 0 0 (omega arith) ∙ ap (λ (xs : List ℕ). get_or part 0 0 ∷ xs) (drop-cons part 1 0 (omega arith))
     ∙ ap (λ (x : ℕ). x ∷ get_or part 1 0 ∷ drop 2 part) (sym k) ∙ ap (λ (x : ℕ). kind_byte h.kind ∷ x ∷ drop 2 part) (sym t)
 
 head_read : (h : Head) (rest : List ℕ) → head_of (kind_byte h.kind ∷ h.timers.count ∷ rest) ≡ Ok h
 head_read h rest =
-    cond_false _ _ _ (le_ltb (length (kind_byte h.kind ∷ h.timers.count ∷ rest)) 2 (omega arith))
+    cond-false _ _ _ (le-ltb (length (kind_byte h.kind ∷ h.timers.count ∷ rest)) 2 (omega arith))
     ∙ ap (λ (o : Option Kind). head_by o (timers_of h.timers.count)) (kind_forth h.kind) ∙ ap (head_by (Some h.kind)) (timers_some h.timers)
 
 -- ---- the part
@@ -171,8 +171,8 @@ module _ (bytes : List ℕ) (small : (i : ℕ) → get_or bytes i 0 < 256) where
   small_within : (start size i : ℕ) → get_or (take size (drop start bytes)) i 0 < 256
   small_within start size i =
       ⊎_elim
-      (λ (h : i < size). rw (get_or_take size (drop start bytes) i 0 h) (small_after bytes small start i))
-      (λ (h : size ≤ i). let l : length (take size (drop start bytes)) ≤ i = simp length_take (omega arith) in rw (get_or_past (take size (drop start bytes)) i 0 l) (lit< tt))
+      (λ (h : i < size). rw (get_or-take size (drop start bytes) i 0 h) (small_after bytes small start i))
+      (λ (h : size ≤ i). let l : length (take size (drop start bytes)) ≤ i = simp length-take (omega arith) in rw (get_or_past (take size (drop start bytes)) i 0 l) (lit< tt))
       (cases_lt i size)
 
   -- chart k has that many motions exactly where its part is laid out so

@@ -1,6 +1,6 @@
 -- One motion of a chart's part after the other. Assumes nothing.
-use Rattle.std.proofs.Common.{◌≡◌, ℕ, zero, suc, ◌+◌, ◌-◌, ◌<◌, ◌≤◌, leb, ◌⊎◌, List, [], ◌∷◌, length, get_or, drop, Ok, Err, Result, sym, refl, ap, ◌∙◌, ⊎_elim, arith, get_or_drop}
-use Rattle.std.proofs.lemmas.Bool.{cond_true, cond_false, le_leb, lt_leb, lt_ltb, cases_lt}
+use Rattle.std.proofs.Common.{◌≡◌, ℕ, zero, suc, ◌+◌, ◌-◌, ◌<◌, ◌≤◌, leb, ◌⊎◌, List, [], ◌∷◌, length, get_or, drop, Ok, Err, Result, sym, refl, ap, ◌∙◌, ⊎_elim, arith, get_or-drop}
+use Rattle.std.proofs.lemmas.Bool.{cond-true, cond-false, le-leb, lt-leb, lt-ltb, cases_lt}
 use Rattle.std.specs.Result.{result_map_both}
 use Rattle.chart.specs.declared.types.Timers.{Timers}
 use Rattle.chart.specs.declared.types.MotionFault.{MotionFault}
@@ -22,7 +22,7 @@ counted k r = result_map_both (λ ms. k + length ms) (λ e. e) r
 pub motions_end : (most : ℕ) (n : Timers) (part : List ℕ) (at k : ℕ) → length part ≤ at → motions_from most n part at k ≡ Ok []
 unfolding motions_from
 motions_end zero n part at k h = refl
-motions_end (suc most) n part at k h = cond_true _ _ _ (le_leb (length part) at h)
+motions_end (suc most) n part at k h = cond-true _ _ _ (le-leb (length part) at h)
 
 module _ (most : ℕ) (n : Timers) (part : List ℕ) (at k : ℕ) (some : 0 < most) (inside : at < length part) where
   abbrev rest : ℕ → Result Chart AtMotion
@@ -32,7 +32,7 @@ module _ (most : ℕ) (n : Timers) (part : List ℕ) (at k : ℕ) (some : 0 < mo
   unfolding motions_from
   motions_step r e =
       let s : most ≡ suc (most - 1) = omega arith in
-      ap (λ (m : ℕ). motions_from m n part at k) s ∙ cond_false _ _ _ (lt_leb (length part) at inside)
+      ap (λ (m : ℕ). motions_from m n part at k) s ∙ cond-false _ _ _ (lt-leb (length part) at inside)
       ∙ ap (λ (q : Result (Motion × ℕ) MotionFault). onward k at q rest) e
 
   shifted : (m : Motion) (r : Result Chart AtMotion) → counted k (result_map_both (λ ms. m ∷ ms) (λ e. e) r) ≡ counted (k + 1) r
@@ -73,7 +73,7 @@ used_sized n bs small used e = go (motion_of n bs) refl e
     go (Err f) q h = absurd (grind arith)
 
 pub small_after : (bs : List ℕ) → ((i : ℕ) → get_or bs i 0 < 256) → (at i : ℕ) → get_or (drop at bs) i 0 < 256
-small_after bs small at i = rw get_or_drop (small (at + i))
+small_after bs small at i = rw get_or-drop (small (at + i))
 
 -- a head has two bytes
 pub head_long : (part : List ℕ) (h : Head) → head_of part ≡ Ok h → 2 ≤ length part
@@ -81,7 +81,7 @@ head_long part h e =
     ⊎_elim (λ (q : length part < 2). absurd (go q)) (λ (q : 2 ≤ length part). q) (cases_lt (length part) 2)
   where
     go : length part < 2 → ⊥
-    go q = let z = sym (cond_true _ _ _ (lt_ltb (length part) 2 q)) ∙ e in grind arith
+    go q = let z = sym (cond-true _ _ _ (lt-ltb (length part) 2 q)) ∙ e in grind arith
 
 -- a part's count, once its head is read, is what its motions answer
 pub by_motions : (part : List ℕ) (h : Head) (r : Result ℕ AtMotion) → Ok h ≡ head_of part → counted 0 (motions_from (length part) h.timers part 2 0) ≡ r

@@ -1,13 +1,13 @@
 -- One pair of a book after the other. Assumes nothing.
-use Rattle.std.proofs.Common.{◌≡◌, ℕ, zero, suc, ◌+◌, ◌-◌, ◌*◌, ◌<◌, ◌≤◌, Bool, true, false, cond, ◌||◌, eqb, ltb, ◌⊎◌, List, length, Some, None, Option, sym, refl, ap, ◌∙◌, ⊎_elim, add_one, arith}
-use Rattle.std.proofs.lemmas.Bool.{cond_true, cond_false, lt_ltb, le_ltb, ltb_false, eqb_false, or_parts, cases_order}
+use Rattle.std.proofs.Common.{◌≡◌, ℕ, zero, suc, ◌+◌, ◌-◌, ◌*◌, ◌<◌, ◌≤◌, Bool, true, false, cond, ◌||◌, eqb, ltb, ◌⊎◌, List, length, Some, None, Option, sym, refl, ap, ◌∙◌, ⊎_elim, add-one, arith}
+use Rattle.std.proofs.lemmas.Bool.{cond-true, cond-false, lt-ltb, le-ltb, ltb-false, eqb-false, or_parts, cases_order}
 use Rattle.std.proofs.lemmas.Bool.Decides.{nat_tests}
 use Rattle.faults.specs.declared.types.BookFault.{BookFault}
 use Rattle.faults.specs.declared.types.BookFault.TheVariants.{Length, Count, Cut, Early, Late}
 use Rattle.book.specs.Layout.{charts, offset, size, least, Sound, pair_fault, or_else, pairs_fault, layout_fault}
 
 pub least_next : (bs : List ℕ) (k : ℕ) → least bs (k + 1) ≡ offset bs k + size bs k
-least_next bs k = ap (least bs) (add_one k)
+least_next bs k = ap (least bs) (add-one k)
 
 module _ (bs : List ℕ) (left k : ℕ) (some : 0 < left) where
   step : (r : Option BookFault) → pair_fault bs k ≡ r → pairs_fault bs left k ≡ or_else r (pairs_fault bs (left - 1) (k + 1))
@@ -17,13 +17,13 @@ module _ (bs : List ℕ) (left k : ℕ) (some : 0 < left) where
       ap (λ (n : ℕ). pairs_fault bs n k) e ∙ ap (λ (q : Option BookFault). or_else q (pairs_fault bs (left - 1) (k + 1))) g
 
   pub pair_early : offset bs k < least bs k → pairs_fault bs left k ≡ Some (Early k)
-  pair_early h = step (Some (Early k)) (cond_true _ _ _ (lt_ltb _ _ h))
+  pair_early h = step (Some (Early k)) (cond-true _ _ _ (lt-ltb _ _ h))
 
   pub pair_late : least bs k ≤ offset bs k → length bs < offset bs k + size bs k → pairs_fault bs left k ≡ Some (Late k)
-  pair_late h g = step (Some (Late k)) (cond_false _ _ _ (le_ltb _ _ h) ∙ cond_true _ _ _ (lt_ltb _ _ g))
+  pair_late h g = step (Some (Late k)) (cond-false _ _ _ (le-ltb _ _ h) ∙ cond-true _ _ _ (lt-ltb _ _ g))
 
   pub pair_next : least bs k ≤ offset bs k → offset bs k + size bs k ≤ length bs → pairs_fault bs left k ≡ pairs_fault bs (left - 1) (k + 1)
-  pair_next h g = step None (cond_false _ _ _ (le_ltb _ _ h) ∙ cond_false _ _ _ (le_ltb _ _ g))
+  pair_next h g = step None (cond-false _ _ _ (le-ltb _ _ h) ∙ cond-false _ _ _ (le-ltb _ _ g))
 
 pub no_pair : (bs : List ℕ) (left k : ℕ) → left ≡ 0 → pairs_fault bs left k ≡ None
 unfolding pairs_fault
@@ -51,7 +51,7 @@ pairs_fit bs (suc left) k e j g h =
     let p = or_none (pair_fault bs k) (pairs_fault bs left (k + 1)) e in
     let q = peel (ltb (offset bs k) (least bs k)) (ltb (length bs) (offset bs k + size bs k)) (Early k) (Late k) None p.0 in
     ⊎_elim
-    (λ (w : j ≡ k). rw w (ltb_false (offset bs k) (least bs k) q.0, ltb_false (length bs) (offset bs k + size bs k) q.1))
+    (λ (w : j ≡ k). rw w (ltb-false (offset bs k) (least bs k) q.0, ltb-false (length bs) (offset bs k + size bs k) q.1))
     (λ (w : (j < k) ⊎ (k < j)). ⊎_elim (λ (x : j < k). absurd (omega arith)) (λ (x : k < j). pairs_fit bs left (k + 1) p.1 j (omega arith) (omega arith)) w)
     (cases_order j k)
 
@@ -72,13 +72,13 @@ sound_from_none bs e =
     let q = peel (ltb (length bs) (2 + 8 * charts bs)) false Cut Cut (pairs_fault bs (charts bs) 0) p.2 in
     let a = or_parts (ltb (length bs) 2) (ltb 65536 (length bs)) p.0 in
     let b = or_parts (eqb (charts bs) 0) (ltb 64 (charts bs)) p.1 in
-    let z = eqb_false (charts bs) 0 b.0 in
+    let z = eqb-false (charts bs) 0 b.0 in
     record {
-      long = ltb_false (length bs) 2 a.0;
-      short = ltb_false 65536 (length bs) a.1;
+      long = ltb-false (length bs) 2 a.0;
+      short = ltb-false 65536 (length bs) a.1;
       some = grind arith;
-      few = ltb_false 64 (charts bs) b.1;
-      pairs = ltb_false (length bs) (2 + 8 * charts bs) q.0;
+      few = ltb-false 64 (charts bs) b.1;
+      pairs = ltb-false (length bs) (2 + 8 * charts bs) q.0;
       parts = λ k h. pairs_fit bs (charts bs) 0 q.2 k (omega arith) (omega arith);
     }
 

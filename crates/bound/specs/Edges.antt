@@ -1,6 +1,6 @@
 -- What an Edge means: fractions. Assumes nothing.
 use Rattle.std.specs.Prelude.{ℕ, ◌+◌, ◌*◌, ◌^◌, ◌≤◌, Bool, true, false, cond, ℤ, pos, ◌+ℤ◌, ◌*ℤ◌, neg_ℤ, ◌≤ℤ◌, Option, int_le, int_lt, unsigned_abs}
-use Rattle.std.proofs.Common.{lit≤, mul_pos}
+use Rattle.std.proofs.Common.{lit≤, mul-pos}
 use Rattle.bound.specs.Differences.{Differences, Less}
 use Rattle.bound.specs.Limited.{up_to}
 use Rattle.bound.specs.Meaning.{Meaning}
@@ -24,7 +24,7 @@ fraction_add x y =
     record {
       top = x.top *ℤ pos y.bottom +ℤ y.top *ℤ pos x.bottom;
       bottom = x.bottom * y.bottom;
-      positive = mul_pos x.positive y.positive;
+      positive = mul-pos x.positive y.positive;
     }
 
 abbrev pub fraction_neg : Fraction → Fraction

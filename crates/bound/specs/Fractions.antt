@@ -1,6 +1,6 @@
 -- Fractions are an ordered group, and can be shifted and halved. A fraction is read as (up − down) over bottom, over the naturals, where `omega` multiplies out. Assumes nothing.
 use Rattle.std.specs.Prelude.{◌≡◌, ℕ, ◌+◌, ◌*◌, ◌<◌, ◌≤◌, ℤ, pos, ◌+ℤ◌, ◌-ℤ◌, ◌*ℤ◌}
-use Rattle.std.proofs.Common.{ap, inl, inr, mul_le_mul_right, le_of_mul_le_mul_right, arith}
+use Rattle.std.proofs.Common.{ap, inl, inr, mul-le-mul_right, le_of_mul-le-mul_right, arith}
 use borrow.Author.Differences.{ints, up, down, sum_is_lem, neg_is}
 use Rattle.std.proofs.lemmas.Int.{by_lt_z}
 use Rattle.bound.specs.Differences.{Same, Less, Ordered}
@@ -40,10 +40,10 @@ add_times x y k = let f = times k (add_is x y) in omega (arith, f)
 -- ---- an ordered group
 trans : (x y z : Fraction) → fraction_le x y → fraction_le y z → fraction_le x z
 trans x y z h k =
-    let p = mul_le_mul_right z.bottom (le_out x y h) in
-    let q = mul_le_mul_right x.bottom (le_out y z k) in
+    let p = mul-le-mul_right z.bottom (le_out x y h) in
+    let q = mul-le-mul_right x.bottom (le_out y z k) in
     let r : (up x.top * z.bottom + down z.top * x.bottom) * y.bottom ≤ (up z.top * x.bottom + down x.top * z.bottom) * y.bottom = omega (arith, p, q) in
-    le_in x z (le_of_mul_le_mul_right r y.positive)
+    le_in x z (le_of_mul-le-mul_right r y.positive)
 
 comm : (x y : Fraction) → Same fractions (fraction_add x y) (fraction_add y x)
 comm x y = same_in (fraction_add x y) (fraction_add y x) (omega (arith, add_times x y (y.bottom * x.bottom), add_times y x (x.bottom * y.bottom)))
@@ -74,7 +74,7 @@ neg_right x = same_in (fraction_add x (fraction_neg x)) (fraction_whole (pos 0))
 add_le : (x y z : Fraction) → fraction_le x y → fraction_le (fraction_add x z) (fraction_add y z)
 add_le x y z h =
     le_in (fraction_add x z) (fraction_add y z)
-    (omega (arith, mul_le_mul_right (z.bottom * z.bottom) (le_out x y h), add_times x z (y.bottom * z.bottom), add_times y z (x.bottom * z.bottom)))
+    (omega (arith, mul-le-mul_right (z.bottom * z.bottom) (le_out x y h), add_times x z (y.bottom * z.bottom), add_times y z (x.bottom * z.bottom)))
 
 pub ordered : Ordered fractions
 ordered =

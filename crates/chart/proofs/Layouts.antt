@@ -1,7 +1,7 @@
 -- A motion is read exactly where it is laid out. Assumes nothing.
-use Rattle.std.proofs.Common.{◌≡◌, ℕ, zero, suc, ◌+◌, ◌-◌, ◌*◌, ◌/◌, ◌%◌, ◌^◌, ◌<◌, ◌≤◌, Bool, true, false, cond, eqb, ltb, leb, ◌⊎◌, List, [], ◌∷◌, ◌++◌, length, get_or, drop, Some, None, Ok, Err, Option, Result, sym, refl, ap, ◌∙◌, subst, inl, inr, ⊎_elim, append_assoc, le_trans, add_one, arith, length_append, length_drop, get_or_drop, drop_cons}
-use Rattle.std.proofs.lemmas.Bool.{eqb_true, ltb_false, leb_false}
-use Rattle.std.proofs.lemmas.List.{drop_drop}
+use Rattle.std.proofs.Common.{◌≡◌, ℕ, zero, suc, ◌+◌, ◌-◌, ◌*◌, ◌/◌, ◌%◌, ◌^◌, ◌<◌, ◌≤◌, Bool, true, false, cond, eqb, ltb, leb, ◌⊎◌, List, [], ◌∷◌, ◌++◌, length, get_or, drop, Some, None, Ok, Err, Option, Result, sym, refl, ap, ◌∙◌, subst, inl, inr, ⊎_elim, append_assoc, le_trans, add-one, arith, length-append, length-drop, get_or-drop, drop-cons}
+use Rattle.std.proofs.lemmas.Bool.{eqb-true, ltb-false, leb-false}
+use Rattle.std.proofs.lemmas.List.{drop-drop}
 use Rattle.std.specs.Result.{result_map_both}
 use Rattle.chart.specs.declared.types.Timers.{Timers}
 use Rattle.chart.specs.declared.types.Sign.{Sign}
@@ -35,7 +35,7 @@ pick false x g r e = inr e
 
 sign_step : (s : ℕ) (x g : Sign) (r : Option Sign) → (r ≡ Some g → sign_byte g ≡ s) → cond (eqb s (sign_byte x)) (Some x) r ≡ Some g → sign_byte g ≡ s
 sign_step s x g r more e =
-    ⊎_elim (λ (p : (eqb s (sign_byte x) ≡ true) × (x ≡ g)). ap sign_byte (sym p.1) ∙ sym (eqb_true s (sign_byte x) p.0)) more (pick (eqb s (sign_byte x)) x g r e)
+    ⊎_elim (λ (p : (eqb s (sign_byte x) ≡ true) × (x ≡ g)). ap sign_byte (sym p.1) ∙ sym (eqb-true s (sign_byte x) p.0)) more (pick (eqb s (sign_byte x)) x g r e)
 
 sign_back : (s : ℕ) (g : Sign) → sign_of s ≡ Some g → sign_byte g ≡ s
 sign_back s g e =
@@ -86,7 +86,7 @@ window_back n t s a b c d at w ha hb hc hd e =
     (rw (r.1, g, r.2, l), rw r.1 p.1)
 
 one : (bs : List ℕ) (i j : ℕ) → j ≡ i + 1 → i < length bs → drop i bs ≡ get_or bs i 0 ∷ drop j bs
-one bs i j e h = rw (e, add_one) (drop_cons bs i 0 h)
+one bs i j e h = rw (e, add-one) (drop-cons bs i 0 h)
 
 six : (bs : List ℕ) (at : ℕ) → at + 6 ≤ length bs
     → drop at bs ≡ get_or bs at 0 ∷ get_or bs (at + 1) 0 ∷ get_or bs (at + 2) 0 ∷ get_or bs (at + 2 + 1) 0 ∷ get_or bs (at + 2 + 2) 0 ∷ get_or bs (at + 2 + 3) 0 ∷ drop (at + 6) bs
@@ -107,7 +107,7 @@ before_back (Ok w) (Ok vs) ws h = (w, vs, refl, refl, cc)
 
 pub length_windows : (ws : List Window) → length (windows_bytes ws) ≡ 6 * length ws
 length_windows [] = refl
-length_windows (w ∷ ws) = let ih = length_windows ws in simp length_append (omega arith)
+length_windows (w ∷ ws) = let ih = length_windows ws in simp length-append (omega arith)
 
 module _ (n : Timers) (bs : List ℕ) (small : (i : ℕ) → get_or bs i 0 < 256) where
   windows_laid : (left k : ℕ) (ws : List Window) → windows_from n bs left k ≡ Ok ws → 2 + 6 * (k + left) ≤ length bs
@@ -145,7 +145,7 @@ module _ (n : Timers) (bs : List ℕ) (small : (i : ℕ) → get_or bs i 0 < 256
       let p₃ = past (ltb (length bs) (2 + 6 * c)) fault.Cut _ (m, used) p₂.1 in
       let q = mapped_back f (windows_from n bs c 0) (m, used) p₃.1 in
       let ws = q.0 in
-      let long : 2 + 6 * c ≤ length bs = ltb_false (length bs) (2 + 6 * c) p₃.0 in
+      let long : 2 + 6 * c ≤ length bs = ltb-false (length bs) (2 + 6 * c) p₃.0 in
       let l = windows_laid c 0 ws q.1 (omega arith) in
       let zero_c : 0 + c ≡ c = omega arith in
       let front : bs ≡ (length ws ∷ get_or bs 1 0 ∷ windows_bytes ws) ++ drop (2 + 6 * c) bs =
@@ -154,12 +154,12 @@ module _ (n : Timers) (bs : List ℕ) (small : (i : ℕ) → get_or bs i 0 < 256
       ∙ ap (λ (j : ℕ). j ∷ get_or bs 1 0 ∷ (windows_bytes ws ++ drop (2 + 6 * c) bs)) (sym l.0) in
       let P : Motion × ℕ → Type 0 = λ p. Laid n.count bs p.0 p.1 in
       let size : 2 + 6 * c ≡ length (length ws ∷ get_or bs 1 0 ∷ windows_bytes ws) = omega (arith, l.0, length_windows ws) in
-      let few : length ws ≤ 16 = omega (arith, l.0, ltb_false 16 c p₁.0) in
+      let few : length ws ≤ 16 = omega (arith, l.0, ltb-false 16 c p₁.0) in
       subst P q.2 (record {
         rest = drop (2 + 6 * c) bs;
         whole = front;
         size = size;
-        fits = record { few = few; timers = l.2; restarted = leb_false (2 ^ n.count) (get_or bs 1 0) p₂.0 };
+        fits = record { few = few; timers = l.2; restarted = leb-false (2 ^ n.count) (get_or bs 1 0) p₂.0 };
       })
 
 -- ---- from the bytes to what is read
@@ -176,7 +176,7 @@ window_forth n at w f =
     window_made n w.timer (sign_byte w.sign) w.number at w.some f w.sign (sign_forth w.sign) w.range ∙ ap Ok (same_window _ w refl refl refl)
 
 at_drop : (bs xs : List ℕ) (at j i : ℕ) → drop at bs ≡ xs → i ≡ at + j → get_or bs i 0 ≡ get_or xs j 0
-at_drop bs xs at j i e q = ap (λ (l : ℕ). get_or bs l 0) q ∙ sym (get_or_drop at bs j 0) ∙ ap (λ (l : List ℕ). get_or l j 0) e
+at_drop bs xs at j i e q = ap (λ (l : ℕ). get_or bs l 0) q ∙ sym (get_or-drop at bs j 0) ∙ ap (λ (l : List ℕ). get_or l j 0) e
 
 windows_read : (n : Timers) (bs : List ℕ) (ws : List Window) (k : ℕ) (rest : List ℕ) → drop (2 + 6 * k) bs ≡ windows_bytes ws ++ rest → All (WindowOf n.count) ws → windows_from n bs (length ws) k ≡ Ok ws
 unfolding windows_from
@@ -195,7 +195,7 @@ windows_read n bs (w ∷ ws) k rest e f =
     let here : window_at n bs at ≡ Ok w = ap (λ (x : ℕ). window_by n x (get_or bs (at + 1) 0) (four bs (at + 2)) at) t ∙ ap (λ (x : ℕ). window_by n w.timer x (four bs (at + 2)) at) s
     ∙ ap (λ (x : ℕ). window_by n w.timer (sign_byte w.sign) x at) v ∙ window_forth n at w f.0 in
     let six_on : at + 6 ≡ 2 + 6 * (k + 1) = omega arith in
-    let tail : drop (2 + 6 * (k + 1)) bs ≡ windows_bytes ws ++ rest = ap (λ (j : ℕ). drop j bs) (sym six_on) ∙ sym (drop_drop 6 at bs) ∙ ap (drop 6) whole in
+    let tail : drop (2 + 6 * (k + 1)) bs ≡ windows_bytes ws ++ rest = ap (λ (j : ℕ). drop j bs) (sym six_on) ∙ sym (drop-drop 6 at bs) ∙ ap (drop 6) whole in
     let ih = windows_read n bs ws (k + 1) rest tail f.1 in
     ap (λ (r : Result Window MotionFault). before r (windows_from n bs (length ws) (k + 1))) here ∙ ap (before (Ok w)) ih
 
@@ -208,7 +208,7 @@ read_from_laid n bs m used l =
     let made : windows_from n bs (get_or bs 0 0) 0 ≡ Ok ws = rw c (windows_read n bs ws 0 l.rest tail l.fits.timers) in
     let small : get_or bs 1 0 < 2 ^ n.count = rw r l.fits.restarted in
     let size : used ≡ 2 + 6 * length ws = omega (arith, l.size, length_windows ws) in
-    let all : length bs ≡ length (motion_bytes m) + length l.rest = ap length l.whole ∙ length_append (motion_bytes m) l.rest in
+    let all : length bs ≡ length (motion_bytes m) + length l.rest = ap length l.whole ∙ length-append (motion_bytes m) l.rest in
     by_windows n bs (omega (arith, l.size)) (omega (arith, c, l.fits.few)) small (omega (arith, c, l.size)) (Ok ws) made
     ∙ ap (λ (x : ℕ). Ok (record { windows = ws; restarts = x }, 2 + 6 * get_or bs 0 0)) r
     ∙ ap (λ (x : ℕ). Ok (m, 2 + 6 * x)) c ∙ ap (λ (x : ℕ). Ok (m, x)) (sym size)
@@ -216,5 +216,5 @@ read_from_laid n bs m used l =
 -- a motion has two bytes or more, and lies within those it was read from
 pub laid_sized : (n : ℕ) (bs : List ℕ) (m : Motion) (used : ℕ) → Laid n bs m used → (2 ≤ used) × (used ≤ length bs)
 laid_sized n bs m used l =
-    let all : length bs ≡ length (motion_bytes m) + length l.rest = ap length l.whole ∙ length_append (motion_bytes m) l.rest in
+    let all : length bs ≡ length (motion_bytes m) + length l.rest = ap length l.whole ∙ length-append (motion_bytes m) l.rest in
     (omega (arith, l.size), omega (arith, l.size))

@@ -1,7 +1,7 @@
 -- What a test of a range answers. Assumes nothing.
 use Rattle.std.proofs.Common.{◌≡◌, ℕ, ◌<◌, ◌≤◌, Bool, true, false, T, leb, Some, None, Ok, Err, Option, Result, sym, refl, ap, ◌∙◌, arith, leb→le}
 use native.Mathlib.Bridge.{le_prop}
-use Rattle.std.proofs.lemmas.Bool.{le_leb, lt_leb}
+use Rattle.std.proofs.lemmas.Bool.{le-leb, lt-leb}
 use Rattle.chart.specs.declared.types.Timers.{Timers}
 use Rattle.chart.specs.Ranges.{when_true, if_le, if_within, timers_of}
 
@@ -11,14 +11,14 @@ module _ {A : Type 0} (a b : ℕ) (met : a ≤ b → A) (unmet : A) where
   when_met false fact e h = absurd (grind arith)
 
   pub le_met : (h : a ≤ b) → if_le a b met unmet ≡ met h
-  le_met h = when_met (leb a b) (leb→le a b) (le_leb a b h) h
+  le_met h = when_met (leb a b) (leb→le a b) (le-leb a b h) h
 
   when_unmet : (t : Bool) (fact : T t → a ≤ b) → t ≡ false → when_true t (λ x. met (fact x)) unmet ≡ unmet
   when_unmet true fact e = absurd (grind arith)
   when_unmet false fact e = refl
 
   pub le_unmet : b < a → if_le a b met unmet ≡ unmet
-  le_unmet h = when_unmet (leb a b) (leb→le a b) (lt_leb a b h)
+  le_unmet h = when_unmet (leb a b) (leb→le a b) (lt-leb a b h)
 
 module _ {A : Type 0} (low high x : ℕ) (met : low ≤ x → x ≤ high → A) (unmet : A) where
   abbrev above : low ≤ x → A

@@ -1,5 +1,5 @@
 -- One window after the other. Assumes nothing.
-use Rattle.std.proofs.Common.{◌≡◌, ℕ, suc, ◌+◌, ◌-◌, ◌*◌, ◌^◌, ◌<◌, ◌≤◌, List, [], ◌∷◌, ◌++◌, length, get_or, Ok, Err, Result, sym, refl, ap, ◌∙◌, append_assoc, append_nil, arith}
+use Rattle.std.proofs.Common.{◌≡◌, ℕ, suc, ◌+◌, ◌-◌, ◌*◌, ◌^◌, ◌<◌, ◌≤◌, List, [], ◌∷◌, ◌++◌, length, get_or, Ok, Err, Result, sym, refl, ap, ◌∙◌, append_assoc, append-nil, arith}
 use Rattle.std.proofs.lemmas.Bool.Decides.{nat_tests}
 use Rattle.std.specs.Result.{result_map_both}
 use Rattle.chart.specs.declared.types.Timers.{Timers}
@@ -40,7 +40,7 @@ pub windows_done : (n : Timers) (bs : List ℕ) (m k : ℕ) (ws : List Window) �
 unfolding windows_from
 windows_done n bs m k ws h inv =
     let e : m - k ≡ 0 = omega arith in
-    inv ∙ ap (λ (x : ℕ). behind ws (windows_from n bs x k)) e ∙ ap Ok (append_nil ws)
+    inv ∙ ap (λ (x : ℕ). behind ws (windows_from n bs x k)) e ∙ ap Ok (append-nil ws)
 
 -- a motion whose first two bytes are sound and whose windows are there is judged by its windows
 pub by_windows : (n : Timers) (bs : List ℕ) → 2 ≤ length bs → get_or bs 0 0 ≤ 16 → get_or bs 1 0 < 2 ^ n.count → 2 + 6 * get_or bs 0 0 ≤ length bs

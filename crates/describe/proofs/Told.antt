@@ -1,7 +1,7 @@
 -- Windows and restarts, one after the other, in words. Assumes nothing.
-use Rattle.std.proofs.Common.{◌≡◌, ℕ, suc, ◌+◌, ◌-◌, ◌<◌, ◌≤◌, Bool, true, false, cond, List, [], ◌∷◌, ◌++◌, length, get_or, drop, codes, decimal, sym, refl, ap, ◌∙◌, append_assoc, append_nil, arith}
+use Rattle.std.proofs.Common.{◌≡◌, ℕ, suc, ◌+◌, ◌-◌, ◌<◌, ◌≤◌, Bool, true, false, cond, List, [], ◌∷◌, ◌++◌, length, get_or, drop, codes, decimal, sym, refl, ap, ◌∙◌, append_assoc, append-nil, arith}
 use Rattle.std.proofs.lemmas.List.{drop_more, drop_all}
-use Rattle.std.proofs.lemmas.Bool.{cond_true, cond_false}
+use Rattle.std.proofs.lemmas.Bool.{cond-true, cond-false}
 use Rattle.chart.specs.declared.types.Window.{Window}
 use Rattle.chart.specs.Charts.{Motion, restarts_timer}
 use Rattle.describe.specs.Words.{window_words, windows_words, separator, restarts_from}
@@ -15,7 +15,7 @@ module _ (ws : List Window) (i : ℕ) (text : List ℕ) (inv : text ++ windows_w
 
   pub windows_all : length ws ≤ i → text ≡ windows_words ws
   unfolding windows_words
-  windows_all h = sym (append_nil text) ∙ ap (λ (xs : List Window). text ++ windows_words xs) (sym (drop_all i ws h)) ∙ inv
+  windows_all h = sym (append-nil text) ∙ ap (λ (xs : List Window). text ++ windows_words xs) (sym (drop_all i ws h)) ∙ inv
 
 module _ (m : Motion) (i : ℕ) (first : Bool) (text whole : List ℕ) (inv : text ++ restarts_from m (9 - i) i first ≡ whole) where
   module _ (h : i < 9) where
@@ -28,10 +28,10 @@ module _ (m : Motion) (i : ℕ) (first : Bool) (text whole : List ℕ) (inv : te
         let rest = restarts_from m (9 - (i + 1)) (i + 1) false in
         append_assoc text (separator first ++ (codes "timer " ++ decimal i)) rest
         ∙ ap (λ (xs : List ℕ). text ++ xs) (append_assoc (separator first) (codes "timer " ++ decimal i) rest ∙ ap (λ (xs : List ℕ). separator first ++ xs) (append_assoc (codes "timer ") (decimal i) rest))
-        ∙ ap (λ (xs : List ℕ). text ++ xs) (sym (next ∙ cond_true _ _ _ e)) ∙ inv
+        ∙ ap (λ (xs : List ℕ). text ++ xs) (sym (next ∙ cond-true _ _ _ e)) ∙ inv
 
     pub restarts_skip : restarts_timer m i ≡ false → text ++ restarts_from m (9 - (i + 1)) (i + 1) first ≡ whole
-    restarts_skip e = ap (λ (xs : List ℕ). text ++ xs) (sym (next ∙ cond_false _ _ _ e)) ∙ inv
+    restarts_skip e = ap (λ (xs : List ℕ). text ++ xs) (sym (next ∙ cond-false _ _ _ e)) ∙ inv
 
   pub restarts_end : 9 ≤ i → text ++ cond first (codes "none") [] ≡ whole
   unfolding restarts_from

@@ -1,6 +1,6 @@
 -- The two tables of a join end to end, and the joined chart's table. Assumes nothing.
 use Rattle.std.proofs.Common.{◌≡◌, ℕ, suc, ◌+◌, ◌-◌, ◌*◌, ◌^◌, ◌<◌, ◌≤◌, true, false, ◌&&◌, ◌||◌, ltb, ◌⊎◌, List, ◌++◌, sym, ap, ◌∙◌, subst, inl, inr, ⊎_elim, arith}
-use Rattle.std.proofs.lemmas.Bool.{lt_ltb, le_ltb, and_from, and_left, and_right, or_left, or_right, or_from, cond_true, cond_false}
+use Rattle.std.proofs.lemmas.Bool.{lt-ltb, le-ltb, and_from, and_left, and_right, or_left, or_right, or_from, cond-true, cond-false}
 use Rattle.bound.specs.Differences.{Differences}
 use Rattle.bound.specs.Meaning.{Meaning, Laws, tighter_of}
 use Rattle.chart.specs.Charts.{Chart, ChartOf}
@@ -22,25 +22,25 @@ module _ {B : Type 0} (m : Meaning B) (n : ℕ) (table other : List B) where
   -- which tests hold of a place
   before : (u v : ℕ) → (u < suc n) ⊎ (v < suc n) → (ltb u (n + 1) || ltb v (n + 1)) ≡ true
   before u v =
-      ⊎_elim (λ (h : u < suc n). or_left (ltb u (n + 1)) (ltb v (n + 1)) (lt_ltb u (n + 1) (omega arith)))
-      (λ (h : v < suc n). or_right (ltb u (n + 1)) (ltb v (n + 1)) (lt_ltb v (n + 1) (omega arith)))
+      ⊎_elim (λ (h : u < suc n). or_left (ltb u (n + 1)) (ltb v (n + 1)) (lt-ltb u (n + 1) (omega arith)))
+      (λ (h : v < suc n). or_right (ltb u (n + 1)) (ltb v (n + 1)) (lt-ltb v (n + 1) (omega arith)))
 
   after : (u v : ℕ) → suc n ≤ u → suc n ≤ v → (ltb u (n + 1) || ltb v (n + 1)) ≡ false
-  after u v hu hv = or_from (ltb u (n + 1)) (ltb v (n + 1)) (le_ltb u (n + 1) (omega arith)) (le_ltb v (n + 1) (omega arith))
+  after u v hu hv = or_from (ltb u (n + 1)) (ltb v (n + 1)) (le-ltb u (n + 1) (omega arith)) (le-ltb v (n + 1) (omega arith))
 
   within : (u v : ℕ) → u < suc n + suc n → v < suc n + suc n → (ltb u (2 * n + 2) && ltb v (2 * n + 2)) ≡ true
-  within u v hu hv = and_from (ltb u (2 * n + 2)) (ltb v (2 * n + 2)) (lt_ltb u (2 * n + 2) (omega arith)) (lt_ltb v (2 * n + 2) (omega arith))
+  within u v hu hv = and_from (ltb u (2 * n + 2)) (ltb v (2 * n + 2)) (lt-ltb u (2 * n + 2) (omega arith)) (lt-ltb v (2 * n + 2) (omega arith))
 
   without : (u v : ℕ) → (suc n + suc n ≤ u) ⊎ (suc n + suc n ≤ v) → (ltb u (2 * n + 2) && ltb v (2 * n + 2)) ≡ false
   without u v =
-      ⊎_elim (λ (h : suc n + suc n ≤ u). and_left (ltb u (2 * n + 2)) (ltb v (2 * n + 2)) (le_ltb u (2 * n + 2) (omega arith)))
-      (λ (h : suc n + suc n ≤ v). and_right (ltb u (2 * n + 2)) (ltb v (2 * n + 2)) (le_ltb v (2 * n + 2) (omega arith)))
+      ⊎_elim (λ (h : suc n + suc n ≤ u). and_left (ltb u (2 * n + 2)) (ltb v (2 * n + 2)) (le-ltb u (2 * n + 2) (omega arith)))
+      (λ (h : suc n + suc n ≤ v). and_right (ltb u (2 * n + 2)) (ltb v (2 * n + 2)) (le-ltb v (2 * n + 2) (omega arith)))
 
   later_is : (u v : ℕ) → suc n ≤ u → suc n ≤ v → joined_cell m n table other u v ≡ later_cell m n table other u v
-  later_is u v hu hv = cond_false _ _ _ (after u v hu hv)
+  later_is u v hu hv = cond-false _ _ _ (after u v hu hv)
 
   first_is : (u v : ℕ) → (u < suc n) ⊎ (v < suc n) → joined_cell m n table other u v ≡ first_cell m n table u v
-  first_is u v h = cond_true _ _ _ (before u v h)
+  first_is u v h = cond-true _ _ _ (before u v h)
 
   -- node i of the second table
   shifted : (i : ℕ) → suc n + i - (n + 1) ≡ i
@@ -56,16 +56,16 @@ module _ {B : Type 0} (m : Meaning B) (n : ℕ) (table other : List B) where
     pub ends_joined : JoinedTo m n (place m n table) (place m n other) (cell m (3 * n + 3) work)
     ends_joined =
         record {
-          first = λ u v hu hv h. rows u v (omega arith) (omega arith) ∙ first_is u v h ∙ cond_true _ _ _ (within u v hu hv);
+          first = λ u v hu hv h. rows u v (omega arith) (omega arith) ∙ first_is u v h ∙ cond-true _ _ _ (within u v hu hv);
           middle = λ i j hi hj. rows (suc n + i) (suc n + j) (omega arith) (omega arith) ∙ later_is (suc n + i) (suc n + j) (omega arith) (omega arith)
-              ∙ cond_true _ _ _ (within (suc n + i) (suc n + j) (omega arith) (omega arith))
+              ∙ cond-true _ _ _ (within (suc n + i) (suc n + j) (omega arith) (omega arith))
               ∙ ap (tighter_of m (place m n table (suc n + i) (suc n + j))) (other_is i j);
           second = λ i j hi hj h. rows (suc n + i) (suc n + j) (omega arith) (omega arith) ∙ later_is (suc n + i) (suc n + j) (omega arith) (omega arith)
-              ∙ cond_false _ _ _ (without (suc n + i) (suc n + j) (far i j h)) ∙ other_is i j;
+              ∙ cond-false _ _ _ (without (suc n + i) (suc n + j) (far i j h)) ∙ other_is i j;
           open_onward = λ u j hu hj h. rows u (suc n + j) (omega arith) (omega arith) ∙ first_is u (suc n + j) (inl hu)
-              ∙ cond_false _ _ _ (without u (suc n + j) (inr (omega arith)));
+              ∙ cond-false _ _ _ (without u (suc n + j) (inr (omega arith)));
           open_back = λ i v hi h hv. rows (suc n + i) v (omega arith) (omega arith) ∙ first_is (suc n + i) v (inr hv)
-              ∙ cond_false _ _ _ (without (suc n + i) v (inl (omega arith)));
+              ∙ cond-false _ _ _ (without (suc n + i) v (inl (omega arith)));
         }
       where
         far : (i j : ℕ) → (suc n ≤ i) ⊎ (suc n ≤ j) → (suc n + suc n ≤ suc n + i) ⊎ (suc n + suc n ≤ suc n + j)

@@ -1,7 +1,7 @@
 -- The working of a motion, from its parts: what a failed test tells, the new table, and its sizes. Assumes nothing.
 use Rattle.std.proofs.Common.{◌≡◌, ℕ, suc, ◌+◌, ◌-◌, ◌*◌, ◌^◌, ◌<◌, ◌≤◌, Bool, true, false, cond, leb, ◌⊎◌, ◌↔◌, List, [], ◌∷◌, ◌++◌, pos, Some, sym, refl, ap, ◌∙◌, subst, subst₂, inl, inr, arith}
 use native.Mathlib.Decide.{dec_lt}
-use Rattle.std.proofs.lemmas.Bool.{cond_true, cond_false, lt_ltb, le_ltb}
+use Rattle.std.proofs.lemmas.Bool.{cond-true, cond-false, lt-ltb, le-ltb}
 use Rattle.bound.specs.Differences.{zero_of}
 use Rattle.bound.specs.Meaning.{Meaning, Laws, tighter_of}
 use Rattle.chart.specs.Charts.{Motion, Chart, MotionOf, restarts_timer}
@@ -97,13 +97,13 @@ module _ {B : Type 0} (m : Meaning B) (laws : Laws m) (nil : B) (is_zero : m.wri
 
   -- the bound between two nodes, old or new, in the work table's own places
   to_place : (u k : ℕ) → u < 2 * n + 2 → 2 * n + 2 ≤ k → W u k ≡ at m after (2 * n + 2 + u)
-  to_place u k hu hk = cond_true _ _ _ (lt_ltb u (2 * n + 2) hu) ∙ cond_false _ _ _ (le_ltb k (2 * n + 2) hk)
+  to_place u k hu hk = cond-true _ _ _ (lt-ltb u (2 * n + 2) hu) ∙ cond-false _ _ _ (le-ltb k (2 * n + 2) hk)
 
   from_place : (k v : ℕ) → 2 * n + 2 ≤ k → v < 2 * n + 2 → W k v ≡ at m after (4 * n + 4 + v)
-  from_place k v hk hv = cond_false _ _ _ (le_ltb k (2 * n + 2) hk) ∙ cond_true _ _ _ (lt_ltb v (2 * n + 2) hv)
+  from_place k v hk hv = cond-false _ _ _ (le-ltb k (2 * n + 2) hk) ∙ cond-true _ _ _ (lt-ltb v (2 * n + 2) hv)
 
   new_place : (k l : ℕ) → 2 * n + 2 ≤ k → 2 * n + 2 ≤ l → W k l ≡ nil
-  new_place k l hk hl = cond_false _ _ _ (le_ltb k (2 * n + 2) hk) ∙ cond_false _ _ _ (le_ltb l (2 * n + 2) hl)
+  new_place k l hk hl = cond-false _ _ _ (le-ltb k (2 * n + 2) hk) ∙ cond-false _ _ _ (le-ltb l (2 * n + 2) hl)
 
   nil_small : m.size_of nil ≤ 1
   nil_small = laws.written_size false (pos 0) nil is_zero
@@ -164,16 +164,16 @@ module _ {B : Type 0} (m : Meaning B) (laws : Laws m) (nil : B) (is_zero : m.wri
       old_old =
           ap (λ x. relaxed m x (W u N) (W N v)) (at_old m laws nil is_zero n motion table before after direct small spread u v hu hv)
           ∙ ap (λ x. relaxed m held x (W N v)) (to_place u N hu (omega arith)) ∙ ap (λ x. relaxed m held (at m after (2 * n + 2 + u)) x) (from_place N v (omega arith) hv)
-          ∙ sym (cond_true _ _ _ (lt_ltb u (2 * n + 2) hu) ∙ cond_true _ _ _ (lt_ltb v (2 * n + 2) hv))
+          ∙ sym (cond-true _ _ _ (lt-ltb u (2 * n + 2) hu) ∙ cond-true _ _ _ (lt-ltb v (2 * n + 2) hv))
 
       old_new : Same u N
-      old_new = column u (omega arith) ∙ to_place u N hu (omega arith) ∙ sym (cond_true _ _ _ (lt_ltb u (2 * n + 2) hu) ∙ cond_false _ _ _ (le_ltb N (2 * n + 2) (omega arith)))
+      old_new = column u (omega arith) ∙ to_place u N hu (omega arith) ∙ sym (cond-true _ _ _ (lt-ltb u (2 * n + 2) hu) ∙ cond-false _ _ _ (le-ltb N (2 * n + 2) (omega arith)))
 
       new_old : Same N v
-      new_old = own_row v (omega arith) ∙ from_place N v (omega arith) hv ∙ sym (cond_false _ _ _ (le_ltb N (2 * n + 2) (omega arith)) ∙ cond_true _ _ _ (lt_ltb v (2 * n + 2) hv))
+      new_old = own_row v (omega arith) ∙ from_place N v (omega arith) hv ∙ sym (cond-false _ _ _ (le-ltb N (2 * n + 2) (omega arith)) ∙ cond-true _ _ _ (lt-ltb v (2 * n + 2) hv))
 
       new_new : Same N N
-      new_new = column N (omega arith) ∙ new_place N N (omega arith) (omega arith) ∙ sym (cond_false _ _ _ (le_ltb N (2 * n + 2) (omega arith)) ∙ cond_false _ _ _ (le_ltb N (2 * n + 2) (omega arith)))
+      new_new = column N (omega arith) ∙ new_place N N (omega arith) (omega arith) ∙ sym (cond-false _ _ _ (le-ltb N (2 * n + 2) (omega arith)) ∙ cond-false _ _ _ (le-ltb N (2 * n + 2) (omega arith)))
 
       go : (motion_name n motion u ≡ u) ⊎ (motion_name n motion u ≡ N) → (motion_name n motion v ≡ v) ⊎ (motion_name n motion v ≡ N) → Same (motion_name n motion u) (motion_name n motion v)
       go (inl a) (inl b) = subst₂ Same (sym a) (sym b) old_old

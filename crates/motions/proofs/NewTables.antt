@@ -1,7 +1,7 @@
 -- What the work table holds after the spread is the table with the new now, as the theory has it. Assumes nothing.
-use Rattle.std.proofs.Common.{◌≡◌, ℕ, zero, suc, ◌+◌, ◌-◌, ◌*◌, ◌^◌, ◌<◌, ◌≤◌, Bool, true, false, cond, eqb, ◌⊎◌, ◌↔◌, List, [], ◌∷◌, pos, neg_ℤ, nat_abs, Some, None, Option, sym, refl, ap, ◌∙◌, subst, inl, inr, ⊎_elim, eq_or_lt_of_le, arith}
+use Rattle.std.proofs.Common.{◌≡◌, ℕ, zero, suc, ◌+◌, ◌-◌, ◌*◌, ◌^◌, ◌<◌, ◌≤◌, Bool, true, false, cond, eqb, ◌⊎◌, ◌↔◌, List, [], ◌∷◌, pos, neg_ℤ, nat_abs, Some, None, Option, sym, refl, ap, ◌∙◌, subst, inl, inr, ⊎_elim, eq-or-lt_of_le, arith}
 use borrow.Author.Differences.{ints}
-use Rattle.std.proofs.lemmas.Bool.{cond_true, cond_false, ne_eqb, lt_ltb, le_ltb}
+use Rattle.std.proofs.lemmas.Bool.{cond-true, cond-false, ne_eqb, lt-ltb, le-ltb}
 use Rattle.bound.specs.Differences.{Differences, zero_of}
 use Rattle.bound.specs.Meaning.{Meaning, Laws, Stands, tighter_of}
 use Rattle.bound.proofs.Lawful.{tighter_both, tighter_either, sum_some}
@@ -38,7 +38,7 @@ unfolding all_more
 no_window m [] a = refl
 no_window m (w ∷ ws) a =
     let off : eqb w.timer 0 ≡ false = ne_eqb w.timer 0 (λ e. omega (arith, e, w.some)) in
-    ap (λ x. into_by m 0 x ws) (cond_false _ _ _ off) ∙ no_window m ws a
+    ap (λ x. into_by m 0 x ws) (cond-false _ _ _ off) ∙ no_window m ws a
 
 -- the tightest of a family is the tightest of another with the same sets
 tightest_again : (D : Differences) {I J : Type 0} (S : I → Set D) (R : J → Set D) (Q : Set D) → ((j : J) → (i : I) × Within D (S i) (R j)) → ((i : I) → (j : J) × Within D (R j) (S i))
@@ -58,7 +58,7 @@ module _ {B : Type 0} (m : Meaning B) (laws : Laws m) (nil : B) (is_zero : m.wri
     ws = motion.windows
 
     into_timer : (i : ℕ) → 1 ≤ i → i ≤ n → into_by m i m.opened ws ≡ at m work i
-    into_timer i p l = ap (λ a. into_by m i a ws) (sym (cond_false _ _ _ (ne_eqb i 0 (λ e. omega (arith, e))))) ∙ sym (direct.into i (omega arith))
+    into_timer i p l = ap (λ a. into_by m i a ws) (sym (cond-false _ _ _ (ne_eqb i 0 (λ e. omega (arith, e))))) ∙ sym (direct.into i (omega arith))
 
     into_now : at m work 0 ≡ nil
     into_now = direct.into 0 (omega arith) ∙ no_window m ws nil
@@ -144,7 +144,7 @@ module _ {B : Type 0} (m : Meaning B) (laws : Laws m) (nil : B) (is_zero : m.wri
               ⊎_elim
               (λ (q : i ≡ k). inr (subst (λ (x : ℕ). Within m.differences (Sum m.differences (m.allows (f k)) (m.allows (g k))) (Sum m.differences (m.allows (f x)) (m.allows (g x)))) (sym q) (λ d x. x)))
               (λ (q : i < k). inl ((i, q), λ d x. x))
-              (eq_or_lt_of_le {n = i} {m = k} (omega arith))
+              (eq-or-lt_of_le {n = i} {m = k} (omega arith))
 
           either : Within m.differences (m.allows (best_of m f g k)) (m.allows (tighter_of m (best_of m f g k) s)) ⊎ Within m.differences (m.allows s) (m.allows (tighter_of m (best_of m f g k) s))
               → Within m.differences (m.allows (best_of m f g k)) (m.allows (tighter_of m (best_of m f g k) s))
@@ -166,16 +166,16 @@ module _ {B : Type 0} (m : Meaning B) (laws : Laws m) (nil : B) (is_zero : m.wri
     W = with_new m nil n table after
 
     pub at_old : (u v : ℕ) → u < 2 * n + 2 → v < 2 * n + 2 → W u v ≡ cell m (2 * n + 2) table u v
-    at_old u v hu hv = cond_true _ _ _ (lt_ltb u (2 * n + 2) hu) ∙ cond_true _ _ _ (lt_ltb v (2 * n + 2) hv)
+    at_old u v hu hv = cond-true _ _ _ (lt-ltb u (2 * n + 2) hu) ∙ cond-true _ _ _ (lt-ltb v (2 * n + 2) hv)
 
     pub at_to : (u k : ℕ) → u < 2 * n + 2 → 2 * n + 2 ≤ k → W u k ≡ to_new m n table before u
-    at_to u k hu hk = cond_true _ _ _ (lt_ltb u (2 * n + 2) hu) ∙ cond_false _ _ _ (le_ltb k (2 * n + 2) hk) ∙ spread.toward_new u hu
+    at_to u k hu hk = cond-true _ _ _ (lt-ltb u (2 * n + 2) hu) ∙ cond-false _ _ _ (le-ltb k (2 * n + 2) hk) ∙ spread.toward_new u hu
 
     pub at_from : (k v : ℕ) → 2 * n + 2 ≤ k → v < 2 * n + 2 → W k v ≡ from_new m n table before v
-    at_from k v hk hv = cond_false _ _ _ (le_ltb k (2 * n + 2) hk) ∙ cond_true _ _ _ (lt_ltb v (2 * n + 2) hv) ∙ spread.out_of_new v hv
+    at_from k v hk hv = cond-false _ _ _ (le-ltb k (2 * n + 2) hk) ∙ cond-true _ _ _ (lt-ltb v (2 * n + 2) hv) ∙ spread.out_of_new v hv
 
     pub at_new : (k l : ℕ) → 2 * n + 2 ≤ k → 2 * n + 2 ≤ l → W k l ≡ nil
-    at_new k l hk hl = cond_false _ _ _ (le_ltb k (2 * n + 2) hk) ∙ cond_false _ _ _ (le_ltb l (2 * n + 2) hl)
+    at_new k l hk hl = cond-false _ _ _ (le-ltb k (2 * n + 2) hk) ∙ cond-false _ _ _ (le-ltb l (2 * n + 2) hl)
 
     -- SPREAD: the table with the new now, as the theory asks for it
     pub spread_is : Spread m.differences n (table_of m n table) (λ i. m.allows (at m before i)) (λ i. m.allows (at m before (n + 1 + i))) (allowed_at m W)

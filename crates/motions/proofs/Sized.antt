@@ -1,6 +1,6 @@
 -- Sizes of the new table where the bounds between the nodes and the new now are at most 2^39. Assumes nothing.
 use Rattle.std.proofs.Common.{◌≡◌, ℕ, ◌+◌, ◌*◌, ◌^◌, ◌<◌, ◌≤◌, Bool, true, false, cond, ltb, List, Some, None, Option, refl, arith}
-use Rattle.std.proofs.lemmas.Bool.{ltb_true}
+use Rattle.std.proofs.lemmas.Bool.{ltb-true}
 use Rattle.bound.specs.Meaning.{Meaning, Laws}
 use Rattle.chart.specs.Charts.{Motion}
 use Rattle.runs.specs.Motions.{motion_name}
@@ -25,10 +25,10 @@ module _ {B : Type 0} (m : Meaning B) (laws : Laws m) where
     settled_small held p q h = one (ltb p (2 * n + 2)) (ltb q (2 * n + 2)) refl refl
       where
         to_small : ltb p (2 * n + 2) ≡ true → m.size_of (at m work (2 * n + 2 + p)) ≤ 2 ^ 39
-        to_small e = let l = ltb_true p (2 * n + 2) e in modest (2 * n + 2 + p) (omega arith) (omega arith)
+        to_small e = let l = ltb-true p (2 * n + 2) e in modest (2 * n + 2 + p) (omega arith) (omega arith)
 
         from_small : ltb q (2 * n + 2) ≡ true → m.size_of (at m work (4 * n + 4 + q)) ≤ 2 ^ 39
-        from_small e = let l = ltb_true q (2 * n + 2) e in modest (4 * n + 4 + q) (omega arith) (omega arith)
+        from_small e = let l = ltb-true q (2 * n + 2) e in modest (4 * n + 4 + q) (omega arith) (omega arith)
 
         one : (s t : Bool) → ltb p (2 * n + 2) ≡ s → ltb q (2 * n + 2) ≡ t
             → m.size_of (cond s (cond t (relaxed m held (at m work (2 * n + 2 + p)) (at m work (4 * n + 4 + q))) (at m work (2 * n + 2 + p))) (cond t (at m work (4 * n + 4 + q)) z)) ≤ 2 ^ 40

@@ -1,5 +1,5 @@
 -- The tightest of several sums, one after the other. Assumes nothing.
-use Rattle.std.proofs.Common.{◌≡◌, ℕ, zero, suc, ◌+◌, ◌*◌, ◌<◌, ◌≤◌, List, sym, refl, ap, ◌∙◌, subst, add_one, arith}
+use Rattle.std.proofs.Common.{◌≡◌, ℕ, zero, suc, ◌+◌, ◌*◌, ◌<◌, ◌≤◌, List, sym, refl, ap, ◌∙◌, subst, add-one, arith}
 use Rattle.bound.specs.Meaning.{Meaning}
 use Rattle.table.specs.Cells.{at, cell, relaxed}
 use Rattle.motions.specs.Star.{best_of, to_new, from_new}
@@ -12,7 +12,7 @@ module _ {B : Type 0} (m : Meaning B) (f g : ℕ → B) where
   pub best_more : (i : ℕ) (best a b next : B) → best ≡ best_of m f g i → a ≡ f i → b ≡ g i → next ≡ relaxed m best a b → next ≡ best_of m f g (i + 1)
   unfolding best_of
   best_more i best a b next inv ea eb e =
-      e ∙ ap (λ x. relaxed m x a b) inv ∙ ap (λ x. relaxed m (best_of m f g i) x b) ea ∙ ap (λ x. relaxed m (best_of m f g i) (f i) x) eb ∙ ap (best_of m f g) (sym (add_one i))
+      e ∙ ap (λ x. relaxed m x a b) inv ∙ ap (λ x. relaxed m (best_of m f g i) x b) ea ∙ ap (λ x. relaxed m (best_of m f g i) (f i) x) eb ∙ ap (best_of m f g) (sym (add-one i))
 
   pub best_to : (i count : ℕ) → i ≡ count → (best : B) → best ≡ best_of m f g i → best ≡ best_of m f g count
   best_to i count e best h = h ∙ ap (best_of m f g) e

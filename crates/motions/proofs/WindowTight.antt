@@ -1,6 +1,6 @@
 -- The bounds that windows write, one after the other, are the tightest that they write, and small. Assumes nothing.
-use Rattle.std.proofs.Common.{◌≡◌, ℕ, ◌+◌, ◌^◌, ◌≤◌, Bool, true, false, cond, eqb, ◌⊎◌, List, [], ◌∷◌, ◌++◌, ℤ, nat_abs, Some, None, Option, sym, refl, subst, inl, inr, append_assoc, append_nil, arith}
-use Rattle.std.proofs.lemmas.Bool.{eqb_true, eqb_false}
+use Rattle.std.proofs.Common.{◌≡◌, ℕ, ◌+◌, ◌^◌, ◌≤◌, Bool, true, false, cond, eqb, ◌⊎◌, List, [], ◌∷◌, ◌++◌, ℤ, nat_abs, Some, None, Option, sym, refl, subst, inl, inr, append_assoc, append-nil, arith}
+use Rattle.std.proofs.lemmas.Bool.{eqb-true, eqb-false}
 use Rattle.bound.specs.Differences.{Differences}
 use Rattle.bound.specs.Meaning.{Meaning, Laws, Stands, tighter_of}
 use Rattle.bound.proofs.Lawful.{tighter_both, tighter_either, written_some}
@@ -53,12 +53,12 @@ module _ {B : Type 0} (m : Meaning B) (laws : Laws m) (Side : Sign → Bool → 
       by_side (Some s) e on = writes_one ws w s a on (sided w.sign s e) (m.written s (signed w.number)) refl t
 
       by_timer : (b : Bool) → eqb w.timer i ≡ b → Tight (ws ++ w ∷ []) (cond b (written_by m a (side w.sign) (signed w.number)) a)
-      by_timer true e = by_side (side w.sign) refl (eqb_true w.timer i e)
-      by_timer false e = windows_skip m.differences Side once set i ws w (λ s on _. eqb_false w.timer i e on) (m.allows a) t
+      by_timer true e = by_side (side w.sign) refl (eqb-true w.timer i e)
+      by_timer false e = windows_skip m.differences Side once set i ws w (λ s on _. eqb-false w.timer i e on) (m.allows a) t
 
   all_tight : (done rest : List Window) (a : B) → Tight done a → Tight (done ++ rest) (all_more m side signed i a rest)
   unfolding all_more
-  all_tight done [] a t = subst (λ ws. Tight ws a) (sym (append_nil done)) t
+  all_tight done [] a t = subst (λ ws. Tight ws a) (sym (append-nil done)) t
   all_tight done (w ∷ ws) a t =
       subst (λ us. Tight us (all_more m side signed i (more m side signed i a w) ws)) (append_assoc done (w ∷ []) ws) (all_tight (done ++ w ∷ []) ws (more m side signed i a w) (step done w a t))
 

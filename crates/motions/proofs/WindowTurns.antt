@@ -1,6 +1,6 @@
 -- The bounds that windows write, one window after the other. Assumes nothing.
-use Rattle.std.proofs.Common.{◌≡◌, ℕ, zero, suc, ◌+◌, ◌*◌, ◌<◌, ◌≤◌, ◌⊎◌, List, [], ◌∷◌, length, get_or, drop, set, sym, refl, ap, ◌∙◌, subst, ⊎_elim, arith, get_or_set_other, get_or_set_same}
-use Rattle.std.proofs.lemmas.Bool.{cases_eq, cond_false, ne_eqb}
+use Rattle.std.proofs.Common.{◌≡◌, ℕ, zero, suc, ◌+◌, ◌*◌, ◌<◌, ◌≤◌, ◌⊎◌, List, [], ◌∷◌, length, get_or, drop, set, sym, refl, ap, ◌∙◌, subst, ⊎_elim, arith, get_or-set_other, get_or-set_same}
+use Rattle.std.proofs.lemmas.Bool.{cases_eq, cond-false, ne_eqb}
 use Rattle.chart.specs.Lists.{All}
 use Rattle.std.proofs.lemmas.List.{drop_more, drop_all}
 use Rattle.bound.specs.Meaning.{Meaning}
@@ -52,9 +52,9 @@ module _ {B : Type 0} (m : Meaning B) (n : ℕ) (t : List B) (z : B) (some : 0 <
   pub wait_into_is : (i : ℕ) → i < n + 1 → at m (set t 0 z) i ≡ wait_into m z i
   wait_into_is i h =
       ⊎_elim
-      (λ (e : i ≡ 0). subst (λ (j : ℕ). at m (set t 0 z) j ≡ wait_into m z j) (sym e) (get_or_set_same t 0 z m.opened some))
-      (λ (ne : i ≡ 0 → ⊥). get_or_set_other t 0 i z m.opened ne ∙ cleared i (omega arith) ∙ sym (cond_false _ _ _ (ne_eqb i 0 ne)))
+      (λ (e : i ≡ 0). subst (λ (j : ℕ). at m (set t 0 z) j ≡ wait_into m z j) (sym e) (get_or-set_same t 0 z m.opened some))
+      (λ (ne : i ≡ 0 → ⊥). get_or-set_other t 0 i z m.opened ne ∙ cleared i (omega arith) ∙ sym (cond-false _ _ _ (ne_eqb i 0 ne)))
       (cases_eq i 0)
 
   pub wait_onward : (i : ℕ) → i < n + 1 → at m (set t 0 z) (n + 1 + i) ≡ m.opened
-  wait_onward i h = get_or_set_other t 0 (n + 1 + i) z m.opened (λ e. omega (arith, e)) ∙ cleared (n + 1 + i) (omega arith)
+  wait_onward i h = get_or-set_other t 0 (n + 1 + i) z m.opened (λ e. omega (arith, e)) ∙ cleared (n + 1 + i) (omega arith)

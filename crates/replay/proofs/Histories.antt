@@ -1,6 +1,6 @@
 -- One call more, and boards made anew. Assumes nothing.
-use Rattle.std.proofs.Common.{◌≡◌, ℕ, ◌+◌, ◌<◌, ◌≤◌, List, [], ◌∷◌, ◌++◌, map, length, get_or, take, set, vec_items, Vec, sym, refl, ap, ◌∙◌, subst, subst₂, arith, length_set, take_all}
-use Rattle.std.proofs.lemmas.List.{take_more, length_map, get_or_map, map_set, set_get_or}
+use Rattle.std.proofs.Common.{◌≡◌, ℕ, ◌+◌, ◌<◌, ◌≤◌, List, [], ◌∷◌, ◌++◌, map, length, get_or, take, set, vec_items, Vec, sym, refl, ap, ◌∙◌, subst, subst₂, arith, length-set, take_all}
+use Rattle.std.proofs.lemmas.List.{take_more, length-map, get_or-map, map-set, set-get_or}
 use Rattle.std.specs.declared.alloc.Global.{Global}
 use Rattle.bound.specs.Meaning.{Meaning}
 use Rattle.board.specs.declared.header.State.TheVariants.{Blank}
@@ -56,8 +56,8 @@ module _ {B : Type 0} (m : Meaning B) where
       record {
         tables = done.tables;
         blank = record {
-          many = many ∙ sym (length_map before _);
-          each = λ j d l. subst (Owns m (get_or slots j d)) (sym (get_or_map (λ (slot : Slot B). blank) before j d blank (omega arith))) (done.blank_below j d (omega arith));
+          many = many ∙ sym (length-map before _);
+          each = λ j d l. subst (Owns m (get_or slots j d)) (sym (get_or-map (λ (slot : Slot B). blank) before j d blank (omega arith))) (done.blank_below j d (omega arith));
         };
       }
 

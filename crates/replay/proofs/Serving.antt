@@ -1,7 +1,7 @@
 -- One call on one of some boards: the others stay, and the charts follow. Assumes nothing.
-use Rattle.std.proofs.Common.{◌≡◌, ℕ, ◌<◌, ◌≤◌, Bool, true, false, cond, ◌≢◌, List, [], map, length, get_or, set, is_ok, vec_items, Result, Vec, sym, refl, ap, ◌∙◌, subst, subst₂, inl, inr, arith, length_set, get_or_set_other, get_or_set_same}
+use Rattle.std.proofs.Common.{◌≡◌, ℕ, ◌<◌, ◌≤◌, Bool, true, false, cond, ◌≢◌, List, [], map, length, get_or, set, is_ok, vec_items, Result, Vec, sym, refl, ap, ◌∙◌, subst, subst₂, inl, inr, arith, length-set, get_or-set_other, get_or-set_same}
 use native.Mathlib.Decide.{ℕ_discrete}
-use Rattle.std.proofs.lemmas.List.{length_map, map_set, get_or_map, set_get_or, set_set, set_comm}
+use Rattle.std.proofs.lemmas.List.{length-map, map-set, get_or-map, set-get_or, set-set, set_comm}
 use Rattle.std.specs.declared.alloc.Global.{Global}
 use Rattle.bound.specs.Meaning.{Meaning}
 use Rattle.faults.specs.declared.types.BoardFault.{BoardFault}
@@ -38,19 +38,19 @@ module _ {B : Type 0} (m : Meaning B) where
     settled : (s : Standing) → Owns m slot s → AllOwn m (set slots i slot) (set charts i s)
     settled s own =
         record {
-          many = length_set slots i slot ∙ all.many ∙ sym (length_set charts i s);
+          many = length-set slots i slot ∙ all.many ∙ sym (length-set charts i s);
           each = λ j d l. elim (ℕ_discrete j i) [
             | yes e ↦
                 let Here : ℕ → Type 0 = λ x. Owns m (get_or (set slots i slot) x d) (standing (set charts i s) x) in
-                subst Here (sym e) (subst₂ (Owns m) (sym (get_or_set_same slots i slot d inside)) (sym (get_or_set_same charts i s blank in_charts)) own)
+                subst Here (sym e) (subst₂ (Owns m) (sym (get_or-set_same slots i slot d inside)) (sym (get_or-set_same charts i s blank in_charts)) own)
             | no ne ↦
-                subst₂ (Owns m) (sym (get_or_set_other slots i j slot d ne)) (sym (get_or_set_other charts i j s blank ne)) (all.each j d (omega (arith, length_set slots i slot)))
+                subst₂ (Owns m) (sym (get_or-set_other slots i j slot d ne)) (sym (get_or-set_other charts i j s blank ne)) (all.each j d (omega (arith, length-set slots i slot)))
           ];
         }
 
     -- the charts stay
     pub unsettled : Owns m slot (standing charts i) → AllOwn m (set slots i slot) charts
-    unsettled own = subst (AllOwn m (set slots i slot)) (set_get_or charts i blank) (settled (standing charts i) own)
+    unsettled own = subst (AllOwn m (set slots i slot)) (set-get_or charts i blank) (settled (standing charts i) own)
 
     -- by whether the call was accepted
     pub settled_if : (ok : Bool) (s : Standing) → Owns m slot (cond ok s (standing charts i)) → AllOwn m (set slots i slot) (cond ok (set charts i s) charts)
@@ -59,29 +59,29 @@ module _ {B : Type 0} (m : Meaning B) where
 
   -- the tables of the boards
   tables_set : (slots : List (Slot B)) (i : ℕ) (slot : Slot B) → map items (set slots i slot) ≡ set (map items slots) i (items slot)
-  tables_set slots i slot = map_set items slots i slot
+  tables_set slots i slot = map-set items slots i slot
 
   -- a board's table
   pub table_at : (slots : List (Slot B)) (i : ℕ) (d : Slot B) → i < length slots → get_or (map items slots) i [] ≡ items (get_or slots i d)
-  table_at slots i d inside = get_or_map items slots i d [] inside
+  table_at slots i d inside = get_or-map items slots i d [] inside
 
   works_at : (works : List (Vec B Global)) (w : ℕ) (d : Vec B Global) → w < length works → get_or (map vec_items works) w [] ≡ vec_items (get_or works w d)
-  works_at works w d inside = get_or_map vec_items works w d [] inside
+  works_at works w d inside = get_or-map vec_items works w d [] inside
 
   -- a table that is put back as it was
   pub tables_same : (slots : List (Slot B)) (i : ℕ) (d slot : Slot B) → i < length slots → items slot ≡ items (get_or slots i d) → map items (set slots i slot) ≡ map items slots
   tables_same slots i d slot inside e =
-      tables_set slots i slot ∙ ap (λ (x : List B). set (map items slots) i x) (e ∙ sym (table_at slots i d inside)) ∙ set_get_or (map items slots) i []
+      tables_set slots i slot ∙ ap (λ (x : List B). set (map items slots) i x) (e ∙ sym (table_at slots i d inside)) ∙ set-get_or (map items slots) i []
 
   in_tables : (slots : List (Slot B)) (i : ℕ) → i < length slots → i < length (map items slots)
-  in_tables slots i inside = omega (arith, length_map slots items, inside)
+  in_tables slots i inside = omega (arith, length-map slots items, inside)
 
   in_works : (works : List (Vec B Global)) (w : ℕ) → w < length works → w < length (map vec_items works)
-  in_works works w inside = omega (arith, length_map works vec_items, inside)
+  in_works works w inside = omega (arith, length-map works vec_items, inside)
 
   -- what a work table holds, among the others
   works_set : (works : List (Vec B Global)) (w : ℕ) (work : Vec B Global) → map vec_items (set works w work) ≡ set (map vec_items works) w (vec_items work)
-  works_set works w work = map_set vec_items works w work
+  works_set works w work = map-set vec_items works w work
 
   -- a call that names none
   pub absent : (slots : List (Slot B)) (charts : List Standing) (all : AllOwn m slots charts) (works : List (Vec B Global)) (c : Call) → (Named (snapshot charts slots works) c → ⊥)
@@ -172,19 +172,19 @@ module _ {B : Type 0} (m : Meaning B) where
       (inside : i < length slots) (inside' : j < length slots) (apart : i ≢ j) (same : Same (get_or slots j d') other) where
     -- the board's own place was empty for the length of the call
     two_set : set (set (set slots i spare) j other) i own ≡ set (set slots j other) i own
-    two_set = ap (λ (l : List (Slot B)). set l i own) (set_comm slots i j spare other apart) ∙ set_set (set slots j other) i spare own
+    two_set = ap (λ (l : List (Slot B)). set l i own) (set_comm slots i j spare other apart) ∙ set-set (set slots j other) i spare own
 
     all' : AllOwn m (set slots j other) charts
     all' = own_kept slots charts all works j d' other inside' same
 
     in_other : i < length (set slots j other)
-    in_other = omega (arith, length_set slots j other, inside)
+    in_other = omega (arith, length-set slots j other, inside)
 
     other_tables : map items (set slots j other) ≡ map items slots
     other_tables = tables_same slots j d' other inside' same.1
 
     own_is : get_or (set slots j other) i d ≡ get_or slots i d
-    own_is = get_or_set_other slots j i other d apart
+    own_is = get_or-set_other slots j i other d apart
 
     joins_set : (w : ℕ) (e work : Vec B Global) → w < length works → (r : Result (Unit {0}) BoardFault)
         → JoinDone m (length (vec_items (get_or works w e))) own.header (items (get_or slots i d)) (items own) (vec_items (get_or works w e)) (vec_items work) r (standing charts i) (standing charts j)

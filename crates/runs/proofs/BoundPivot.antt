@@ -1,5 +1,5 @@
 -- A pivot on a table of bounds: it is a pivot of what they allow, and sizes grow so slowly that no sum in a join is refused. Assumes nothing.
-use Rattle.std.proofs.Common.{◌≡◌, ℕ, ◌+◌, ◌*◌, ◌^◌, ◌<◌, ◌≤◌, Bool, true, false, cond, ◌⊎◌, ◌↔◌, List, ◌∷◌, length, Some, sym, refl, subst, inl, inr, mul_le_mul_right, arith, lit≤}
+use Rattle.std.proofs.Common.{◌≡◌, ℕ, ◌+◌, ◌*◌, ◌^◌, ◌<◌, ◌≤◌, Bool, true, false, cond, ◌⊎◌, ◌↔◌, List, ◌∷◌, length, Some, sym, refl, subst, inl, inr, mul-le-mul_right, arith, lit≤}
 use Rattle.bound.specs.Differences.{Differences, Ordered, zero_of}
 use Rattle.bound.specs.Meaning.{Meaning, Laws, Inside, tighter_of}
 use Rattle.bound.proofs.Lawful.{inside_tighter, tighter_else, tighter_both, tighter_either}
@@ -110,6 +110,6 @@ module _ {B : Type 0} (m : Meaning B) (laws : Laws m) (N : ℕ) (W : ℕ → ℕ
       let a = sized_bound D N (allowed_at m W) ps (2 ^ 40) (size_at m W) sized u p hu hp in
       let b = sized_bound D N (allowed_at m W) ps (2 ^ 40) (size_at m W) sized p v hp hv in
       let few' : length ps + 1 ≤ 9 = omega arith in
-      let c : (length ps + 1) * 2 ^ 40 ≤ 9 * 2 ^ 40 = mul_le_mul_right (2 ^ 40) few' in
+      let c : (length ps + 1) * 2 ^ 40 ≤ 9 * 2 ^ 40 = mul-le-mul_right (2 ^ 40) few' in
       let d : 9 * 2 ^ 40 + 9 * 2 ^ 40 ≤ 2 ^ 46 = lit≤ tt in
       sum_there m laws (W u p) (W p v) (omega arith)

@@ -1,5 +1,5 @@
 -- Chains written as lists of codes: a test whether the codes lead from one date to another, and the bound that they give. Assumes nothing.
-use Rattle.std.proofs.Common.{◌≡◌, ℕ, zero, suc, ◌<◌, ◌≤◌, Bool, true, false, not, ◌&&◌, T, eqb, ltb, leb, List, [], ◌∷◌, length, get_or, pos, neg_ℤ, Some, None, Option, sym, refl, ap, subst, le_of_suc_le_suc, arith, lit≤, eqb→eq, ltb→lt, leb→le}
+use Rattle.std.proofs.Common.{◌≡◌, ℕ, zero, suc, ◌<◌, ◌≤◌, Bool, true, false, not, ◌&&◌, T, eqb, ltb, leb, List, [], ◌∷◌, length, get_or, pos, neg_ℤ, Some, None, Option, sym, refl, ap, subst, le_of_suc-le-suc, arith, lit≤, eqb→eq, ltb→lt, leb→le}
 use Rattle.bound.specs.Meaning.{Meaning, Laws}
 use Rattle.chart.specs.declared.types.Sign.{Sign}
 use Rattle.chart.specs.declared.types.Sign.TheVariants.{AtMost, Under, AtLeast, Over, Equal}
@@ -93,7 +93,7 @@ lower_sign Equal h = lower_exactly
 at_place : {A : Type 0} (xs : List A) (j : ℕ) (x : A) → j < length xs → At xs j (get_or xs j x)
 at_place [] j x h = absurd (omega arith)
 at_place (y ∷ xs) zero x h = here
-at_place (y ∷ xs) (suc j) x h = later (at_place xs j x (le_of_suc_le_suc h))
+at_place (y ∷ xs) (suc j) x h = later (at_place xs j x (le_of_suc-le-suc h))
 
 module _ (n : ℕ) (c : Chart) where
   abbrev motion_at : ℕ → Motion

@@ -1,7 +1,7 @@
 -- The empty chart's table is good. Assumes nothing.
-use Rattle.std.proofs.Common.{◌≡◌, ℕ, zero, suc, ◌+◌, ◌-◌, ◌<◌, ◌≤◌, cond, ◌⊎◌, [], ◌∷◌, sym, refl, ap, ◌∙◌, subst, subst₂, inl, inr, arith, le_leb}
+use Rattle.std.proofs.Common.{◌≡◌, ℕ, zero, suc, ◌+◌, ◌-◌, ◌<◌, ◌≤◌, cond, ◌⊎◌, [], ◌∷◌, sym, refl, ap, ◌∙◌, subst, subst₂, inl, inr, arith, le-leb}
 use native.Mathlib.Decide.{ℕ_discrete}
-use borrow.Author.Tests.{lt_leb}
+use borrow.Author.Tests.{lt-leb}
 use Rattle.bound.specs.Differences.{Differences, Same, Ordered, zero_of, minus}
 use Rattle.runs.specs.Runs.{Reading, reads, Run}
 use Rattle.runs.specs.Graph.{date, node, Attained}
@@ -19,12 +19,12 @@ use Rattle.runs.proofs.Chains.{attained_up, attained_zero, attained_limit}
 use Rattle.runs.proofs.Rename.{renamed_closed}
 
 base_start : (n i : ℕ) → i < suc n → base n i ≡ i
-base_start n i l = ap (λ b. cond b i (i - (n + 1))) (le_leb i n (omega arith))
+base_start n i l = ap (λ b. cond b i (i - (n + 1))) (le-leb i n (omega arith))
 
 base_end : (n i : ℕ) → base n (suc n + i) ≡ i
 base_end n i =
     let e : (suc n + i) - (n + 1) ≡ i = omega arith in
-    ap (λ b. cond b (suc n + i) ((suc n + i) - (n + 1))) (lt_leb (suc n + i) n (omega arith)) ∙ e
+    ap (λ b. cond b (suc n + i) ((suc n + i) - (n + 1))) (lt-leb (suc n + i) n (omega arith)) ∙ e
 
 -- whether the bound between i and j is 0 or open
 pub touch : (i j : ℕ) → Dec ((j ≡ 0) ⊎ (i ≡ j))

@@ -1,7 +1,7 @@
 -- The join of two charts: from good tables of both, the working table, pivoted on each node of the middle and renamed, is good; where a test fails the joined chart never runs. Assumes nothing.
-use Rattle.std.proofs.Common.{◌≡◌, ℕ, suc, ◌+◌, ◌-◌, ◌<◌, ◌≤◌, cond, ◌⊎◌, ◌↔◌, [], ◌∷◌, ◌++◌, length, sym, refl, ap, ◌∙◌, subst, subst₂, inl, inr, arith, le_leb}
+use Rattle.std.proofs.Common.{◌≡◌, ℕ, suc, ◌+◌, ◌-◌, ◌<◌, ◌≤◌, cond, ◌⊎◌, ◌↔◌, [], ◌∷◌, ◌++◌, length, sym, refl, ap, ◌∙◌, subst, subst₂, inl, inr, arith, le-leb}
 use native.Mathlib.Decide.{dec_lt, ℕ_discrete}
-use borrow.Author.Tests.{lt_leb}
+use borrow.Author.Tests.{lt-leb}
 use Rattle.bound.specs.Differences.{Differences, Same, Ordered, zero_of}
 use Rattle.chart.specs.Charts.{Chart, ChartOf}
 use Rattle.runs.specs.Runs.{Reading, reads, Run}
@@ -25,13 +25,13 @@ use Rattle.runs.proofs.GoodRuns.{end_of, time_of, shows_own}
 
 module _ (n : ℕ) (c d : Chart) where
   join_old : (u : ℕ) → u < suc n + suc n → join_node n c d u ≡ node n c u
-  join_old u l = ap (λ b. cond b (date (before (length (c ++ d))) (u - (suc n + suc n))) (node n c u)) (lt_leb (suc n + suc n) u l)
+  join_old u l = ap (λ b. cond b (date (before (length (c ++ d))) (u - (suc n + suc n))) (node n c u)) (lt-leb (suc n + suc n) u l)
 
   join_far : (i : ℕ) → join_node n c d (suc n + (suc n + i)) ≡ date (before (length (c ++ d))) i
   join_far i =
       let e : (suc n + (suc n + i)) - (suc n + suc n) ≡ i = omega arith in
       ap (λ b. cond b (date (before (length (c ++ d))) ((suc n + (suc n + i)) - (suc n + suc n))) (node n c (suc n + (suc n + i))))
-      (le_leb (suc n + suc n) (suc n + (suc n + i)) (omega arith)) ∙ ap (date (before (length (c ++ d)))) e
+      (le-leb (suc n + suc n) (suc n + (suc n + i)) (omega arith)) ∙ ap (date (before (length (c ++ d)))) e
 
   -- nodes of the second chart's table
   join_second : (i : ℕ) → i < suc n + suc n → join_node n c d (suc n + i) ≡ past_date c (node n d i)

@@ -1,5 +1,5 @@
 -- A chart with one more motion: from a good table, the table with the new now, closed by its pivot and renamed, is good. Assumes nothing.
-use Rattle.std.proofs.Common.{◌≡◌, ℕ, zero, suc, ◌+◌, ◌-◌, ◌<◌, ◌≤◌, Bool, true, false, cond, leb, ◌⊎◌, ◌↔◌, length, sym, refl, ap, ◌∙◌, subst, subst₂, inl, inr, arith, le_leb}
+use Rattle.std.proofs.Common.{◌≡◌, ℕ, zero, suc, ◌+◌, ◌-◌, ◌<◌, ◌≤◌, Bool, true, false, cond, leb, ◌⊎◌, ◌↔◌, length, sym, refl, ap, ◌∙◌, subst, subst₂, inl, inr, arith, le-leb}
 use Rattle.bound.specs.Differences.{Differences, Same, Ordered, zero_of}
 use Rattle.runs.specs.Lists.{At}
 use Rattle.chart.specs.Charts.{Motion, Chart, MotionOf, restarts_timer}
@@ -11,7 +11,7 @@ use Rattle.runs.specs.Graph.Writes.{never_after_now, wait_keeps, wait_kept, rest
 use Rattle.runs.specs.Tables.{Set, Table, Lower, Within, Sum, Closed, Satisfies, Pivoted, IsPivot, IsStar, KeepsDirect, Renamed}
 use Rattle.runs.specs.Motions.{MotionBounds, Spread, MotionNames}
 use Rattle.runs.specs.Good.{Shows, Good}
-use borrow.Author.Tests.{lt_leb}
+use borrow.Author.Tests.{lt-leb}
 use Rattle.runs.proofs.Lists.{up_to, by_parts}
 use Rattle.runs.proofs.Chains.{Free, attained_up, attained_zero, attained_sum, attained_along, free_stop, free_by, free_after}
 use Rattle.runs.proofs.Nodes.{node_start, node_end}
@@ -93,10 +93,10 @@ module _ {D : Differences} (o : Ordered D) (n : ℕ) (c : Chart) (motion : Motio
     date_of u = cond (leb N u) new_now (node n c u)
 
     date_old : (u : ℕ) → u < N → date_of u ≡ node n c u
-    date_old u l = ap (λ b. cond b new_now (node n c u)) (lt_leb N u l)
+    date_old u l = ap (λ b. cond b new_now (node n c u)) (lt-leb N u l)
 
     date_new : date_of N ≡ new_now
-    date_new = ap (λ b. cond b new_now (node n c N)) (le_leb N N (omega arith))
+    date_new = ap (λ b. cond b new_now (node n c N)) (le-leb N N (omega arith))
 
     spread_attained : (u v : ℕ) → u < suc N → v < suc N → Attained D n chart (date_of u) (date_of v) (W u v)
     spread_attained u v hu hv =

@@ -1,6 +1,6 @@
 -- Sizes under pivots. After pivots on k nodes no size is above (k + 1) times the greatest at first, though each pivot adds two sizes:
 -- a way that would pass a node twice is never tighter than one that is there already. So sums in a join stay within a kind's reach.
-use Rattle.std.proofs.Common.{◌≡◌, ℕ, ◌+◌, ◌*◌, ◌<◌, ◌≤◌, Bool, true, false, ◌||◌, ◌⊎◌, List, [], ◌∷◌, length, sym, refl, subst, inl, inr, mul_le_mul_right, add_mul, one_mul, arith}
+use Rattle.std.proofs.Common.{◌≡◌, ℕ, ◌+◌, ◌*◌, ◌<◌, ◌≤◌, Bool, true, false, ◌||◌, ◌⊎◌, List, [], ◌∷◌, length, sym, refl, subst, inl, inr, mul-le-mul_right, add-mul, one-mul, arith}
 use Rattle.bound.specs.Differences.{Differences, Ordered, zero_of}
 use Rattle.runs.specs.Tables.{Table, Lower, Sum, Pivoted, Within}
 use Rattle.bound.specs.Solver.{◌⊞◌, nil, v0, v1, v2, v3, v4, le_from2}
@@ -68,7 +68,7 @@ pub record Resized (D : Differences) (W : Table D) (p : ℕ) (size size' : ℕ �
 
 -- at first
 pub sized_first : (D : Differences) (N : ℕ) (W : Table D) (B : ℕ) (size : ℕ → ℕ → ℕ) → ((u v : ℕ) → u < N → v < N → size u v ≤ B) → SizedBy D N W [] B size
-sized_first D N W B size h u v hu hv = (tt, tt, let e = one_mul B in let k = h u v hu hv in omega arith)
+sized_first D N W B size h u v hu hv = (tt, tt, let e = one-mul B in let k = h u v hu hv in omega arith)
 
 -- so no size is above (k + 1) × B
 pub sized_bound : (D : Differences) (N : ℕ) (W : Table D) (ps : List ℕ) (B : ℕ) (size : ℕ → ℕ → ℕ) → SizedBy D N W ps B size
@@ -78,7 +78,7 @@ sized_bound D N W ps B size s u v hu hv = go (s u v hu hv)
     go : ((a : Mask ps) × AllUsed (OnWay D N W u v) ps a × (size u v ≤ (count ps a + 1) * B)) → size u v ≤ (length ps + 1) * B
     go (a, h, k) =
         let c : count ps a + 1 ≤ length ps + 1 = let l = count_length ps a in omega arith in
-        let m : (count ps a + 1) * B ≤ (length ps + 1) * B = mul_le_mul_right B c in
+        let m : (count ps a + 1) * B ≤ (length ps + 1) * B = mul-le-mul_right B c in
         omega arith
 
 module _ {D : Differences} (o : Ordered D) (N : ℕ) (W : Table D) (low : (u v : ℕ) → Lower D (W u v)) (p : ℕ) (hp : p < N) (free : W p p (zero_of D)) where
@@ -178,7 +178,7 @@ module _ {D : Differences} (o : Ordered D) (N : ℕ) (W : Table D) (low : (u v :
           used_union (OnWay D N W u p) (OnWay D N W p v) (OnWay D N (Pivoted D W p) u v) (λ q. comes u v q choose) (λ q. goes u v q choose) ps b c hb hc,
         ),
         (let f : (count ps b + 1) + (count ps c + 1) ≡ (1 + count ps (union ps b c)) + 1 = omega arith in
-            let m : ((count ps b + 1) + (count ps c + 1)) * B ≡ (count ps b + 1) * B + (count ps c + 1) * B = add_mul (count ps b + 1) (count ps c + 1) B in
+            let m : ((count ps b + 1) + (count ps c + 1)) * B ≡ (count ps b + 1) * B + (count ps c + 1) * B = add-mul (count ps b + 1) (count ps c + 1) B in
             let g : size' u v ≤ ((count ps b + 1) + (count ps c + 1)) * B = omega arith in
             subst (λ z. size' u v ≤ z * B) f g),
       )

@@ -1,6 +1,6 @@
 -- The empty chart's table. Assumes nothing.
 use Rattle.std.proofs.Common.{◌≡◌, ℕ, ◌+◌, ◌*◌, false, eqb, ◌⊎◌, List, [], pos, Some, ◌∙◌, inl, inr, ⊎_elim, arith}
-use Rattle.std.proofs.lemmas.Bool.{eq_eqb, ne_eqb, or_left, or_right, or_from, cond_true, cond_false}
+use Rattle.std.proofs.lemmas.Bool.{eq-eqb, ne_eqb, or_left, or_right, or_from, cond-true, cond-false}
 use Rattle.bound.specs.Meaning.{Meaning, Laws}
 use Rattle.runs.specs.Empty.{base, EmptyTo}
 use Rattle.runs.specs.Good.{Good}
@@ -13,10 +13,10 @@ module _ {B : Type 0} (m : Meaning B) (laws : Laws m) (zero : B) (is_zero : m.wr
   pub empty_to : EmptyTo m n zero (place m n table)
   empty_to =
       record {
-        touching = λ u v hu hv t. rows u v (omega arith) (omega arith) ∙ cond_true _ _ _ (⊎_elim
-            (λ e. or_left (eqb (base n v) 0) (eqb (base n u) (base n v)) (eq_eqb (base n v) 0 e))
-            (λ e. or_right (eqb (base n v) 0) (eqb (base n u) (base n v)) (eq_eqb (base n u) (base n v) e)) t);
-        apart = λ u v hu hv t. rows u v (omega arith) (omega arith) ∙ cond_false _ _ _
+        touching = λ u v hu hv t. rows u v (omega arith) (omega arith) ∙ cond-true _ _ _ (⊎_elim
+            (λ e. or_left (eqb (base n v) 0) (eqb (base n u) (base n v)) (eq-eqb (base n v) 0 e))
+            (λ e. or_right (eqb (base n v) 0) (eqb (base n u) (base n v)) (eq-eqb (base n u) (base n v) e)) t);
+        apart = λ u v hu hv t. rows u v (omega arith) (omega arith) ∙ cond-false _ _ _
             (or_from (eqb (base n v) 0) (eqb (base n u) (base n v)) (ne_eqb (base n v) 0 (λ e. t (inl e))) (ne_eqb (base n u) (base n v) (λ e. t (inr e))));
       }
 

@@ -1,13 +1,13 @@
 -- Rows of a square table lie apart, and a table is filled row by row. Assumes nothing.
-use Rattle.std.proofs.Common.{◌≡◌, ℕ, ◌+◌, ◌*◌, ◌<◌, ◌≤◌, ◌⊎◌, List, length, set, sym, refl, ap, ◌∙◌, subst, inl, inr, ⊎_elim, add_mul, eq_or_lt_of_le, arith, get_or_set_other, get_or_set_same}
+use Rattle.std.proofs.Common.{◌≡◌, ℕ, ◌+◌, ◌*◌, ◌<◌, ◌≤◌, ◌⊎◌, List, length, set, sym, refl, ap, ◌∙◌, subst, inl, inr, ⊎_elim, add-mul, eq-or-lt_of_le, arith, get_or-set_other, get_or-set_same}
 use native.Mathlib.Decide.{dec_lt}
-use Rattle.std.proofs.lemmas.Nat.{mul_le}
+use Rattle.std.proofs.lemmas.Nat.{mul-le}
 use Rattle.bound.specs.Meaning.{Meaning}
 use Rattle.table.specs.Cells.{at, cell, Beyond, Only, Holds, Rows}
 
 -- a row above another ends before that begins
 pub row_before : (u w side : ℕ) → u < w → u * side + side ≤ w * side
-row_before u w side h = omega (arith, mul_le (u + 1) side w side (omega arith) (omega arith), add_mul u 1 side)
+row_before u w side h = omega (arith, mul-le (u + 1) side w side (omega arith) (omega arith), add-mul u 1 side)
 
 pub row_within : (u side : ℕ) → u < side → u * side + side ≤ side * side
 row_within u side h = row_before u side side h
@@ -24,16 +24,16 @@ module _ {B : Type 0} (m : Meaning B) where
   pub only_more : (start v : ℕ) (before now : List B) (x : B) → Only m start v before now → Only m start (v + 1) before (set now (start + v) x)
   only_more start v before now x o =
       record {
-        below = λ i h. get_or_set_other now (start + v) i x m.opened (λ e. omega (arith, e)) ∙ o.below i h;
-        above = λ i h. get_or_set_other now (start + v) i x m.opened (λ e. omega (arith, e)) ∙ o.above i (omega arith);
+        below = λ i h. get_or-set_other now (start + v) i x m.opened (λ e. omega (arith, e)) ∙ o.below i h;
+        above = λ i h. get_or-set_other now (start + v) i x m.opened (λ e. omega (arith, e)) ∙ o.above i (omega arith);
       }
 
   pub holds_more : (start v : ℕ) (f : ℕ → B) (now : List B) (x : B) → start + v < length now → x ≡ f v → Holds m start v f now → Holds m start (v + 1) f (set now (start + v) x)
   holds_more start v f now x inside e h w l =
       ⊎_elim
-      (λ (q : w ≡ v). subst (λ (y : ℕ). at m (set now (start + v) x) (start + y) ≡ f y) (sym q) (get_or_set_same now (start + v) x m.opened inside ∙ e))
-      (λ (q : w < v). get_or_set_other now (start + v) (start + w) x m.opened (λ e. omega (arith, e)) ∙ h w q)
-      (eq_or_lt_of_le {n = w} {m = v} (omega arith))
+      (λ (q : w ≡ v). subst (λ (y : ℕ). at m (set now (start + v) x) (start + y) ≡ f y) (sym q) (get_or-set_same now (start + v) x m.opened inside ∙ e))
+      (λ (q : w < v). get_or-set_other now (start + v) (start + w) x m.opened (λ e. omega (arith, e)) ∙ h w q)
+      (eq-or-lt_of_le {n = w} {m = v} (omega arith))
 
   -- ── one row after the other ──
 
@@ -54,7 +54,7 @@ module _ {B : Type 0} (m : Meaning B) where
         ⊎_elim
         (λ (q : w ≡ u). subst (λ (y : ℕ). cell m side after y v ≡ f y v) (sym q) (ap (λ (i : ℕ). at m after (i + v)) (sym is) ∙ row v hv))
         (λ (q : w < u). row_others w v hv (λ e. omega (arith, e)) ∙ rows w v q hv)
-        (eq_or_lt_of_le {n = w} {m = u} (omega arith))
+        (eq-or-lt_of_le {n = w} {m = u} (omega arith))
 
   -- places that a sweep has not come to: those before it, and those after
   pub unswept : (base other count v : ℕ) (before now : List B) → (other < base → other + count ≤ base) → v < count → Only m base v before now
@@ -67,5 +67,5 @@ pub starts_apart : (u w side a b : ℕ) → a ≡ u * side → b ≡ w * side �
 starts_apart u w side a b ea eb l =
     elim (dec_lt u w) [
       | yes h ↦ omega (arith, ea, eb, row_before u w side h)
-      | no n ↦ absurd (omega (arith, ea, eb, mul_le w side u side (omega arith) (omega arith)))
+      | no n ↦ absurd (omega (arith, ea, eb, mul-le w side u side (omega arith) (omega arith)))
     ]

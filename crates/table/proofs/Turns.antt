@@ -1,5 +1,5 @@
 -- The rows of a pivot, one after the other, the pivot's own last. Assumes nothing.
-use Rattle.std.proofs.Common.{◌≡◌, ℕ, ◌+◌, ◌*◌, ◌<◌, ◌≤◌, ◌⊎◌, List, sym, refl, ap, ◌∙◌, subst, ⊎_elim, eq_or_lt_of_le, arith}
+use Rattle.std.proofs.Common.{◌≡◌, ℕ, ◌+◌, ◌*◌, ◌<◌, ◌≤◌, ◌⊎◌, List, sym, refl, ap, ◌∙◌, subst, ⊎_elim, eq-or-lt_of_le, arith}
 use native.Mathlib.Decide.{ℕ_discrete}
 use Rattle.bound.specs.Meaning.{Meaning}
 use Rattle.table.specs.Cells.{cell, Beyond, Only, Holds, Rows, relaxed, pivoted}
@@ -41,7 +41,7 @@ module _ {B : Type 0} (m : Meaning B) (side p : ℕ) (inside : p < side) (before
           done = λ w v l hv nep. ⊎_elim
               (λ (e : w ≡ u). subst (λ (x : ℕ). cell m side next x v ≡ pivoted m side p before x v) (sym e) (row v hv ∙ reads_same h v hv))
               (λ (k : w < u). row_others m side u (u * side) now next refl only w v hv (λ e. omega (arith, e)) ∙ t.done w v k hv nep)
-              (eq_or_lt_of_le {n = w} {m = u} (omega arith));
+              (eq-or-lt_of_le {n = w} {m = u} (omega arith));
           kept = λ w v l hw hv. row_others m side u (u * side) now next refl only w v hv (λ e. omega (arith, e)) ∙ t.kept w v (omega arith) hw hv;
           own = λ v hv. row_others m side u (u * side) now next refl only p v hv (λ e. ne (sym e)) ∙ t.own v hv;
           beyond = λ i l. row_beyond m side u (u * side) now next refl only h i l ∙ t.beyond i l;

@@ -7,7 +7,7 @@ use Rattle.book.proofs.LaidParts.{in_book, by_part}
 use Rattle.book.proofs.part.counted.Goals as goal
 
 pub returns-in_err-count : goal.returns-in_err-count
-returns-in-err-count c =
+returns-in_err-count c =
     let k = c.args.number in
     let start = c.in_ok-place.place.offset in
     let p = err_from_is_err_and c.from_residual-in_err-count.result c.from_residual-in_err-count.ensures.1 in

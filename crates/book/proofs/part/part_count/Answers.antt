@@ -1,4 +1,4 @@
-use Rattle.std.proofs.Common.{◌≡◌, ℕ, ◌+◌, ◌-◌, ◌<◌, ◌≤◌, List, length, get_or, take, drop, Ok, Err, Result, sym, ap, ◌∙◌, arith, length_drop}
+use Rattle.std.proofs.Common.{◌≡◌, ℕ, ◌+◌, ◌-◌, ◌<◌, ◌≤◌, List, length, get_or, take, drop, Ok, Err, Result, sym, ap, ◌∙◌, arith, length-drop}
 use Rattle.std.proofs.lemmas.Slice.{between_to_end}
 use Rattle.std.proofs.lemmas.Result.{err_from_is_err_and}
 use Rattle.chart.specs.declared.types.Timers.{Timers}
@@ -18,7 +18,7 @@ module _ (n : Timers) (part : List ℕ) (at k : ℕ) (inside : at < length part)
   sized : ((i : ℕ) → get_or part i 0 < 256) → (used : ℕ) → r ≡ Ok used → (2 ≤ used) × (at + used ≤ length part)
   sized small used q =
       let s = used_sized n (drop at part) (small_after part small at) used (sym asked ∙ q) in
-      let l = length_drop at part in
+      let l = length-drop at part in
       (s.0, omega arith)
 
 pub loop-at-init : goal.loop-at-init
@@ -29,7 +29,7 @@ loop-at-init c =
     (omega arith, head_long part h (sym c.in_ok-head.ensures), ap (λ (m : ℕ). counted 0 (motions_from m h.timers part 2 0)) (sym e))
 
 pub returns-in_err-used : goal.returns-in_err-used
-returns-in-err-used c =
+returns-in_err-used c =
     let part = c.args.part.now in
     let h = c.in_ok-head.head in
     let at = c.loop-at.at in

@@ -1,4 +1,4 @@
-use Rattle.std.proofs.Common.{◌≡◌, ℕ, ◌+◌, ◌-◌, ◌*◌, ◌%◌, ◌^◌, ◌<◌, ◌≤◌, [], ◌∷◌, ◌++◌, length, get_or, take, set, Ok, Err, sym, refl, ap, ◌∙◌, add_one, arith, length_set, take-suc-set}
+use Rattle.std.proofs.Common.{◌≡◌, ℕ, ◌+◌, ◌-◌, ◌*◌, ◌%◌, ◌^◌, ◌<◌, ◌≤◌, [], ◌∷◌, ◌++◌, length, get_or, take, set, Ok, Err, sym, refl, ap, ◌∙◌, add-one, arith, length-set, take-suc-set}
 use Rattle.std.proofs.lemmas.Nat.{pow_below}
 use Rattle.std.proofs.lemmas.Result.{err_from_is_err_and}
 use Rattle.chart.specs.Reading.{window_at, windows_from, motion_of}
@@ -10,7 +10,7 @@ below : (r n : ℕ) → n ≤ 8 → r < (1 * 2 ^ n) % 4294967296 → r < 2 ^ n
 below r n h e = let p = pow_below n 9 (omega arith) in omega arith
 
 pub returns-in_err-slots : goal.returns-in_err-slots
-returns-in-err-slots c =
+returns-in_err-slots c =
     let p = err_from_is_err_and c.from_residual.result c.from_residual.ensures.1 in
     let n = c.args.timers in
     let bs = c.args.bytes.now in
@@ -28,8 +28,8 @@ loop-k-preserved c =
     let ws = c.loop-k.slots in
     let w = c.in_ok-slots.field-0 in
     let lt : k < length ws = omega arith in (
-      length_set ws k w ∙ c.loop-k.invariant.0,
-      rw (add_one, take-suc-set ws k w lt, ← add_one) (windows_next n bs (get_or bs 0 0) k (take k ws) c.loop-k-test.true c.loop-k.invariant.1 w (sym c.in_ok-slots.ensures)),
+      length-set ws k w ∙ c.loop-k.invariant.0,
+      rw (add-one, take-suc-set ws k w lt, ← add-one) (windows_next n bs (get_or bs 0 0) k (take k ws) c.loop-k-test.true c.loop-k.invariant.1 w (sym c.in_ok-slots.ensures)),
     )
 
 pub returns : goal.returns

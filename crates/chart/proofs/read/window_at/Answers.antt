@@ -15,13 +15,13 @@ returns-then-timer-eq0 c =
     c.then-timer-eq0.either
 
 pub returns-in_default : goal.returns-in_default
-returns-in-default c =
+returns-in_default c =
     let bs = c.args.bytes.now in
     let at = c.args.at in
     sym (sign_none c.args.timers (get_or bs at 0) (get_or bs (at + 1) 0) (four bs (at + 2)) at (omega arith) (omega arith) (sym c.in_default.ensures))
 
 pub returns-then-number-gt-MOST_NUMBER : goal.returns-then-number-gt-MOST_NUMBER
-returns-then-number-gt-MOST-NUMBER c =
+returns-then-number-gt-MOST_NUMBER c =
     let bs = c.args.bytes.now in
     let at = c.args.at in
     sym (number_above c.args.timers (get_or bs at 0) (get_or bs (at + 1) 0) (four bs (at + 2)) at (omega arith) (omega arith) c.in-Some.sign (sym c.in-Some.ensures) (omega arith))

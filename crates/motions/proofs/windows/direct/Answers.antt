@@ -1,4 +1,4 @@
-use Rattle.std.proofs.Common.{◌≡◌, ◌<◌, length, set, sym, ap, ◌∙◌, subst, arith, length_set, get_or_set_other}
+use Rattle.std.proofs.Common.{◌≡◌, ◌<◌, length, set, sym, ap, ◌∙◌, subst, arith, length-set, get_or-set_other}
 use Rattle.chart.specs.Charts.{WindowOf}
 use Rattle.chart.specs.Lists.{All}
 use Rattle.motions.specs.Windows.{into_by, onward_by, Direct}
@@ -12,7 +12,7 @@ pub note-requires : goal.note-requires
 note-requires g c =
     let n = c.args.n in
     let ws = c.windows-window-items.result.now in
-    let l = length_set c.clear.new.table 0 c.zero.result in
+    let l = length-set c.clear.new.table 0 c.zero.result in
     let all = subst (All (WindowOf n)) (sym c.windows-window-items.ensures) c.requires.timers in
     (c.requires.few.0, (all_item (WindowOf n) ws c.loop-window.window-index c.window-item.result all c.loop-window-test.true c.window-item.is, omega arith))
 
@@ -40,5 +40,5 @@ returns g c =
             into = λ i h. all.0 i h ∙ ap (λ a. into_by m i a ws) (wait_into_is m n t z some c.clear.ensures.cleared i h);
             onward = λ i h. all.1 i h ∙ ap (λ a. onward_by m i a ws) (wait_onward m n t z some c.clear.ensures.cleared i h);
           }));
-      beyond = λ i h. c.loop-window.invariant.beyond i h ∙ get_or_set_other t 0 i z m.opened (λ e. omega (arith, e)) ∙ c.clear.ensures.beyond i h;
+      beyond = λ i h. c.loop-window.invariant.beyond i h ∙ get_or-set_other t 0 i z m.opened (λ e. omega (arith, e)) ∙ c.clear.ensures.beyond i h;
     }

@@ -1,4 +1,4 @@
-use Rattle.std.proofs.Common.{◌≡◌, ℕ, ◌<◌, length, get_or, set, sym, refl, ap, ◌∙◌, subst, arith, get_or_set_other, get_or_set_same}
+use Rattle.std.proofs.Common.{◌≡◌, ℕ, ◌<◌, length, get_or, set, sym, refl, ap, ◌∙◌, subst, arith, get_or-set_other, get_or-set_same}
 use native.Mathlib.Decide.{ℕ_discrete}
 use Rattle.board.specs.declared.header.State.TheVariants.{Blank}
 use Rattle.replay.specs.declared.slots.Slot.{Slot}
@@ -18,8 +18,8 @@ loop-i-preserved g c =
     record {
       tables = tables_same g.B.Bound.meaning slots i c.index-slots-i.result slot inside refl ∙ c.loop-i.invariant.tables;
       blank_below = λ j d l. elim (ℕ_discrete j i) [
-        | yes e ↦ subst (λ (x : ℕ). (get_or (set slots i slot) x d).header.state ≡ Blank) (sym e) (ap (λ (x : Slot g.row.B.Denot). x.header.state) (get_or_set_same slots i slot d inside) ∙ c.blank.ensures)
-        | no ne ↦ ap (λ (x : Slot g.row.B.Denot). x.header.state) (get_or_set_other slots i j slot d ne) ∙ c.loop-i.invariant.blank_below j d (omega arith)
+        | yes e ↦ subst (λ (x : ℕ). (get_or (set slots i slot) x d).header.state ≡ Blank) (sym e) (ap (λ (x : Slot g.row.B.Denot). x.header.state) (get_or-set_same slots i slot d inside) ∙ c.blank.ensures)
+        | no ne ↦ ap (λ (x : Slot g.row.B.Denot). x.header.state) (get_or-set_other slots i j slot d ne) ∙ c.loop-i.invariant.blank_below j d (omega arith)
       ];
     }
 

@@ -1,5 +1,5 @@
-use Rattle.std.proofs.Common.{length, get_or, vec_items, sym, subst, ⊎_elim, arith, get_or_set_other}
-use Rattle.std.proofs.lemmas.List.{length_map}
+use Rattle.std.proofs.Common.{length, get_or, vec_items, sym, subst, ⊎_elim, arith, get_or-set_other}
+use Rattle.std.proofs.lemmas.List.{length-map}
 use Rattle.board.specs.Done.{JoinDone}
 use Rattle.replay.specs.declared.slots.Slot.{Slot}
 use Rattle.replay.specs.declared.calls.Call.TheVariants as call
@@ -13,7 +13,7 @@ returns-then-i-slots g c = λ charts all.
     let slots = c.args.slots.now in
     let works = c.args.works.now in
     absent g.B.Bound.meaning slots charts all works (call.Join c.args.i c.args.j c.args.w)
-    (λ (l, k, ne, n). ⊎_elim (λ h. omega (arith, length_map slots items, l, h)) (⊎_elim (λ h. omega (arith, length_map slots items, k, h.1)) (⊎_elim (λ h. ne h.2) (λ h. omega (arith, length_map works vec_items, n, h.3)))) c.then-i-slots.either)
+    (λ (l, k, ne, n). ⊎_elim (λ h. omega (arith, length-map slots items, l, h)) (⊎_elim (λ h. omega (arith, length-map slots items, k, h.1)) (⊎_elim (λ h. ne h.2) (λ h. omega (arith, length-map works vec_items, n, h.3)))) c.then-i-slots.either)
 
 pub returns : goal.returns
 returns g c = λ charts all.
@@ -26,7 +26,7 @@ returns g c = λ charts all.
     let spare = c.replace-own.new.dest in
     let own = c.join-r.new.self in
     let other = c.join-r.new.other in
-    let back = get_or_set_other slots i j spare _ (λ e. c.if-i-j.false (sym e)) in
+    let back = get_or-set_other slots i j spare _ (λ e. c.if-i-j.false (sym e)) in
     let done = c.join-r.ensures.done (standing charts i) (standing charts j)
     (subst (λ (x : Slot g.row.B.Denot). Owns m x (standing charts i)) (sym c.replace-own.ensures.value) (all.each i _ c.if-i-slots.false))
     (subst (λ (x : Slot g.row.B.Denot). Owns m x (standing charts j)) (sym back) (all.each j _ c.if-j-slots.false)) in

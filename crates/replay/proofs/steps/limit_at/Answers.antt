@@ -1,5 +1,5 @@
 use Rattle.std.proofs.Common.{refl, arith}
-use Rattle.std.proofs.lemmas.List.{length_map}
+use Rattle.std.proofs.lemmas.List.{length-map}
 use Rattle.replay.specs.declared.calls.Call.TheVariants as call
 use Rattle.replay.specs.declared.calls.Answer.TheVariants as answer
 use Rattle.replay.specs.History.{standing}
@@ -10,7 +10,7 @@ use Rattle.replay.proofs.steps.limit_at.Goals as goal
 pub returns-then-i-slots : goal.returns-then-i-slots
 returns-then-i-slots g c = λ works charts all.
     let slots = c.args.slots.now in
-    absent g.B.Bound.meaning slots charts all works (call.Limit c.args.i c.args.l) (λ l. omega (arith, length_map slots items, l, c.if-i-slots.true))
+    absent g.B.Bound.meaning slots charts all works (call.Limit c.args.i c.args.l) (λ l. omega (arith, length-map slots items, l, c.if-i-slots.true))
 
 pub returns : goal.returns
 returns g c = λ works charts all.

@@ -1,5 +1,5 @@
 use Rattle.std.proofs.Common.{◌≡◌, ℕ, List, vec_items, subst, ⊎_elim, arith}
-use Rattle.std.proofs.lemmas.List.{length_map}
+use Rattle.std.proofs.lemmas.List.{length-map}
 use Rattle.replay.specs.declared.calls.Call.TheVariants as call
 use Rattle.replay.specs.History.{standing}
 use Rattle.replay.specs.Slots.{items}
@@ -11,7 +11,7 @@ returns-then-i-slots g c = λ charts all.
     let slots = c.args.slots.now in
     let works = c.args.works.now in
     absent g.B.Bound.meaning slots charts all works (call.Motion c.args.i c.args.w c.args.bytes.now)
-    (λ (l, k). ⊎_elim (λ h. omega (arith, length_map slots items, l, h)) (λ h. omega (arith, length_map works vec_items, k, h.1)) c.then-i-slots.either)
+    (λ (l, k). ⊎_elim (λ h. omega (arith, length-map slots items, l, h)) (λ h. omega (arith, length-map works vec_items, k, h.1)) c.then-i-slots.either)
 
 pub returns : goal.returns
 returns g c = λ charts all.

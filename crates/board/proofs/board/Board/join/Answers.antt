@@ -3,7 +3,7 @@ use Rattle.board.specs.Left.{Cleared}
 use Rattle.board.proofs.Worked.{cleared}
 use Rattle.board.proofs.Growing.{join_long, join_settled}
 use Rattle.board.proofs.board.Board.join.Goals as goal
-use Rattle.board.proofs.board.Board.join.Goals.{then-more-gt-MOST-MOTIONS-via-then-more-gt-MOST-MOTIONS, then-more-gt-MOST-MOTIONS-via-else-more-gt-MOST-MOTIONS+then-self-more}
+use Rattle.board.proofs.board.Board.join.Goals.{then-more-gt-MOST_MOTIONS-via-then-more-gt-MOST_MOTIONS, then-more-gt-MOST_MOTIONS-via-else-more-gt-MOST_MOTIONS+then-self-more}
 
 pub returns-then-more-gt-MOST_MOTIONS : goal.returns-then-more-gt-MOST_MOTIONS
 returns-then-more-gt-MOST_MOTIONS g c =
@@ -21,8 +21,8 @@ returns-then-more-gt-MOST_MOTIONS g c =
     let same = c.if-timers-others.false in
     let long : 1000000000 < h.count + e.count =
     elim c.then-more-gt-MOST_MOTIONS.branch [
-      | then-more-gt-MOST-MOTIONS-via-then-more-gt-MOST-MOTIONS w ↦ omega (arith, w.if-more-gt-MOST_MOTIONS.true)
-      | then-more-gt-MOST-MOTIONS-via-else-more-gt-MOST-MOTIONS+then-self-more w ↦ omega (arith, w.if-more-gt-MOST_MOTIONS.false, w.if-self-more.true)
+      | then-more-gt-MOST_MOTIONS-via-then-more-gt-MOST_MOTIONS w ↦ omega (arith, w.if-more-gt-MOST_MOTIONS.true)
+      | then-more-gt-MOST_MOTIONS-via-else-more-gt-MOST_MOTIONS+then-self-more w ↦ omega (arith, w.if-more-gt-MOST_MOTIONS.false, w.if-self-more.true)
     ] in
     let done = join_long m laws n k h e table other work are others_are same (omega (arith, c.work_places-needed.ensures)) long in
     record { done = done; named = search rules }

@@ -1,7 +1,7 @@
 use Rattle.std.proofs.Common.{◌≡◌, ℕ, ◌-◌, ◌*◌, ◌/◌, ◌%◌, ◌^◌, ◌<◌, ◌≤◌, Bool, true, false, ◌&&◌, eqb, leb, sym, refl, ap, ◌∙◌, ⊎_elim, arith, pow_mono}
 use lib.Bits.{bit_and}
 use Rattle.std.proofs.lemmas.Nat.{and_mask, pow_pos, div_below}
-use Rattle.std.proofs.lemmas.Bool.{le_leb, lt_leb, and_left, and_right, ne_eqb}
+use Rattle.std.proofs.lemmas.Bool.{le-leb, lt-leb, and_left, and_right, ne_eqb}
 use Rattle.chart.proofs.types.Motion.restarts.Goals as goal
 
 -- bits above the eighth are 0
@@ -18,7 +18,7 @@ returns-then-timer-eq0 c =
     let bits = c.args.self.now.restarts in
     let small : bits < 256 = omega arith in
     ⊎_elim
-    (λ e. let h : timer < 1 = omega (arith, e) in sym (and_left (leb 1 timer) (eqb (bits / 2 ^ (timer - 1) % 2) 1) (lt_leb 1 timer h)))
+    (λ e. let h : timer < 1 = omega (arith, e) in sym (and_left (leb 1 timer) (eqb (bits / 2 ^ (timer - 1) % 2) 1) (lt-leb 1 timer h)))
     (λ e. sym (and_right (leb 1 timer) (eqb (bits / 2 ^ (timer - 1) % 2) 1) (high bits timer small e.1)))
     c.then-timer-eq0.either
 
@@ -26,5 +26,5 @@ pub returns : goal.returns
 returns c =
     let timer = c.args.timer in
     let bits = c.args.self.now.restarts in
-    let t : leb 1 timer ≡ true = le_leb 1 timer (omega arith) in
+    let t : leb 1 timer ≡ true = le-leb 1 timer (omega arith) in
     ap (λ (x : ℕ). eqb x 1) (and_mask (bits / 2 ^ (timer - 1)) 1) ∙ sym (ap (λ (b : Bool). b && eqb (bits / 2 ^ (timer - 1) % 2) 1) t)
