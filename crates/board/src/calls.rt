@@ -29,7 +29,7 @@ const NO_LIMIT: Name = Name {
 impl<'a, B: Bound> Board<'a, B> {
     // A board just made: Blank, on a table of any length and content, which stays as it is.
     pub fn new(table: &'a mut [B]) -> Self
-        ensures stands { StandsFor meaning result.header result.table.now blank }
+        ensures stands { StandsFor B.meaning result.header result.table.now blank }
         ensures same { result.table.now ≡ table.old }
         ensures named { result.table.ghost_name ≡ table.entry.ghost_name }
     {
@@ -57,8 +57,8 @@ impl<'a, B: Bound> Board<'a, B> {
     // Makes the board one of `n` timers with the empty chart, in any state.
     pub fn open(&mut self, n: u8) -> Result<(), BoardFault>
         ensures answer { OpenIs (length self.old.table.now) n result }
-        ensures stands { (s : Standing) → StandsFor meaning self.old.header self.old.table.now s → StandsFor meaning self.new.header self.new.table.now (if is_ok result then opened n s else s) }
-        ensures table { (s : Standing) → TableLeft meaning (opened n s) self.old.table.now self.new.table.now result }
+        ensures stands { (s : Standing) → StandsFor B.meaning self.old.header self.old.table.now s → StandsFor B.meaning self.new.header self.new.table.now (if is_ok result then opened n s else s) }
+        ensures table { (s : Standing) → TableLeft B.meaning (opened n s) self.old.table.now self.new.table.now result }
         ensures named { self.new.table.ghost_name ≡ self.old.table.ghost_name }
     {
         let Some(timers) = Timers::new(n) else {
@@ -78,7 +78,7 @@ impl<'a, B: Bound> Board<'a, B> {
 
     // Adds the motion at the front of the bytes to the chart's end, and answers how many bytes it used.
     pub fn motion(&mut self, work: &mut [B], bytes: &[u8]) -> Result<usize, BoardFault>
-        ensures done { (s : Standing) → StandsFor meaning self.old.header self.old.table.now s → MotionDone meaning (length work.old) bytes.now self.new.header self.old.table.now self.new.table.now work.old work.new result s }
+        ensures done { (s : Standing) → StandsFor B.meaning self.old.header self.old.table.now s → MotionDone B.meaning (length work.old) bytes.now self.new.header self.old.table.now self.new.table.now work.old work.new result s }
         ensures named { self.new.table.ghost_name ≡ self.old.table.ghost_name }
     {
         let timers = self.timers()?;
@@ -99,7 +99,7 @@ impl<'a, B: Bound> Board<'a, B> {
 
     // Adds the other board's chart after its own.
     pub fn join(&mut self, other: &Board<B>, work: &mut [B]) -> Result<(), BoardFault>
-        ensures done { (s t : Standing) → StandsFor meaning self.old.header self.old.table.now s → StandsFor meaning other.now.header other.now.table.now t → JoinDone meaning (length work.old) self.new.header self.old.table.now self.new.table.now work.old work.new result s t }
+        ensures done { (s t : Standing) → StandsFor B.meaning self.old.header self.old.table.now s → StandsFor B.meaning other.now.header other.now.table.now t → JoinDone B.meaning (length work.old) self.new.header self.old.table.now self.new.table.now work.old work.new result s t }
         ensures named { self.new.table.ghost_name ≡ self.old.table.ghost_name }
     {
         let timers = self.timers()?;
@@ -129,7 +129,7 @@ impl<'a, B: Bound> Board<'a, B> {
 
     // Whether the chart has a run.
     pub fn runs(&self) -> Result<bool, BoardFault>
-        ensures { (s : Standing) → StandsFor meaning self.now.header self.now.table.now s → RunsIs meaning s result }
+        ensures { (s : Standing) → StandsFor B.meaning self.now.header self.now.table.now s → RunsIs B.meaning s result }
     {
         match self.header.state {
             State::Blank => Err(BoardFault::Blank),
@@ -140,7 +140,7 @@ impl<'a, B: Bound> Board<'a, B> {
 
     // The length of the chart.
     pub fn count(&self) -> Result<u32, BoardFault>
-        ensures { (s : Standing) → StandsFor meaning self.now.header self.now.table.now s → CountIs s result }
+        ensures { (s : Standing) → StandsFor B.meaning self.now.header self.now.table.now s → CountIs s result }
     {
         match self.header.state {
             State::Blank => Err(BoardFault::Blank),
@@ -150,7 +150,7 @@ impl<'a, B: Bound> Board<'a, B> {
 
     // Whether the other chart joins every pair of readings that this one joins.
     pub fn within(&self, other: &Board<B>) -> Result<Within, BoardFault>
-        ensures { (s t : Standing) → StandsFor meaning self.now.header self.now.table.now s → StandsFor meaning other.now.header other.now.table.now t → WithinIs meaning s t result }
+        ensures { (s t : Standing) → StandsFor B.meaning self.now.header self.now.table.now s → StandsFor B.meaning other.now.header other.now.table.now t → WithinIs B.meaning s t result }
     {
         let timers = self.timers()?;
         let others = other.timers()?;
@@ -171,7 +171,7 @@ impl<'a, B: Bound> Board<'a, B> {
 
     // The limit under a name.
     pub fn limit(&self, name: Name) -> Result<B, BoardFault>
-        ensures { (s : Standing) → StandsFor meaning self.now.header self.now.table.now s → LimitIs meaning s name result }
+        ensures { (s : Standing) → StandsFor B.meaning self.now.header self.now.table.now s → LimitIs B.meaning s name result }
     {
         let timers = self.timers()?;
         if let State::Never = self.header.state {
@@ -185,7 +185,7 @@ impl<'a, B: Bound> Board<'a, B> {
 
     // Two bounds together: the first is kept by the time of every run, the second by the negated time.
     pub fn span(&self) -> Result<(B, B), BoardFault>
-        ensures { (s : Standing) → StandsFor meaning self.now.header self.now.table.now s → SpanIs meaning s result }
+        ensures { (s : Standing) → StandsFor B.meaning self.now.header self.now.table.now s → SpanIs B.meaning s result }
     {
         let timers = self.timers()?;
         if let State::Never = self.header.state {

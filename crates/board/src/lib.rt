@@ -1,4 +1,6 @@
 // Boards: a header and a lent table of bounds, and the calls on them.
+#![tactic(auto)]
+
 mod board;
 mod calls;
 mod header;

@@ -39,10 +39,10 @@ pub(crate) fn work_motion<B: Bound>(
 ) -> Found
     requires room { (table_places timers.count ≤ length table.old) × (work_places timers.count ≤ length work.old) }
     requires fit { MotionOf timers.count (held_motion added.now) }
-    ensures finds { (c : Chart) → StateIs meaning state timers c table.old → Finds meaning timers.count (c ++ held_motion added.now ∷ []) table.new result }
+    ensures finds { (c : Chart) → StateIs B.meaning state timers c table.old → Finds B.meaning timers.count (c ++ held_motion added.now ∷ []) table.new result }
     ensures kept { Kept table.old table.new result }
-    ensures beyond { Beyond meaning (table_places timers.count) table.old table.new }
-    ensures lent { Beyond meaning (work_places timers.count) work.old work.new }
+    ensures beyond { Beyond B.meaning (table_places timers.count) table.old table.new }
+    ensures lent { Beyond B.meaning (work_places timers.count) work.old work.new }
 {
     match state {
         State::Runs => motion_any(table, work, timers, added),
@@ -60,10 +60,10 @@ pub(crate) fn work_join<B: Bound>(
     timers: Timers,
 ) -> Found
     requires { (table_places timers.count ≤ length table.old) × ((table_places timers.count ≤ length other.now) × (work_places timers.count ≤ length work.old)) }
-    ensures finds { (c d : Chart) → StateIs meaning state timers c table.old → StateIs meaning others timers d other.now → ChartOf timers.count d → Finds meaning timers.count (c ++ d) table.new result }
+    ensures finds { (c d : Chart) → StateIs B.meaning state timers c table.old → StateIs B.meaning others timers d other.now → ChartOf timers.count d → Finds B.meaning timers.count (c ++ d) table.new result }
     ensures kept { Kept table.old table.new result }
-    ensures beyond { Beyond meaning (table_places timers.count) table.old table.new }
-    ensures lent { Beyond meaning (work_places timers.count) work.old work.new }
+    ensures beyond { Beyond B.meaning (table_places timers.count) table.old table.new }
+    ensures lent { Beyond B.meaning (work_places timers.count) work.old work.new }
 {
     if let State::Runs = state {
         if let State::Runs = others {

@@ -1,4 +1,6 @@
 // Books of charts: their layout, their charts' heads and motions, and their faults.
+#![tactic(auto)]
+
 mod head;
 mod layout;
 mod part;

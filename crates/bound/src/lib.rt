@@ -1,5 +1,7 @@
 // Kinds of bound on a difference u − v, as a difference bound matrix (DBM) holds them: the trait with
 // its laws, what follows from the laws for every kind, and two kinds, Tick and Edge.
+#![tactic(auto)]
+
 ghost use Rattle.std.specs.Prelude.{◌≡◌, ◌+◌, ◌≤◌, true, false, pos, Some};
 ghost use Rattle.bound.specs.Meaning.{Meaning, Laws, Both, tighter_of, AllowsZero};
 
@@ -46,7 +48,7 @@ pub trait Bound: Copy {
 
 // The bound "≤ 0", which is in range for every kind.
 pub fn zero<B: Bound>() -> B
-    ensures { meaning.written false (pos 0) ≡ Some result }
+    ensures { B.meaning.written false (pos 0) ≡ Some result }
 {
     match B::written(false, 0) {
         Some(b) => b,
@@ -56,16 +58,16 @@ pub fn zero<B: Bound>() -> B
 
 // The tighter of two bounds, which allows what both allow.
 pub fn keep_tighter<B: Bound>(a: B, b: B) -> B
-    ensures value { result ≡ tighter_of meaning a b }
-    ensures both { Both meaning a b result }
+    ensures value { result ≡ tighter_of B.meaning a b }
+    ensures both { Both B.meaning a b result }
 {
     if a.tighter(b) { a } else { b }
 }
 
 // Keeps the tighter of two bounds in place.
 pub fn tighten<B: Bound>(held: &mut B, bound: B)
-    ensures value { held.new ≡ tighter_of meaning held.old bound }
-    ensures both { Both meaning held.old bound held.new }
+    ensures value { held.new ≡ tighter_of B.meaning held.old bound }
+    ensures both { Both B.meaning held.old bound held.new }
 {
     if !held.tighter(bound) {
         *held = bound;
@@ -74,8 +76,8 @@ pub fn tighten<B: Bound>(held: &mut B, bound: B)
 
 // Whether the bound allows the difference 0: it does where it allows all that "≤ 0" does.
 pub fn allows_zero<B: Bound>(bound: B) -> bool
-    ensures yes { result ≡ true → AllowsZero meaning bound }
-    ensures no { result ≡ false → AllowsZero meaning bound → ⊥ }
+    ensures yes { result ≡ true → AllowsZero B.meaning bound }
+    ensures no { result ≡ false → AllowsZero B.meaning bound → ⊥ }
 {
     zero::<B>().tighter(bound)
 }

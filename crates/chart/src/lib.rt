@@ -1,4 +1,6 @@
 // Charts of motions: their parts, and how motions are read from bytes.
+#![tactic(auto)]
+
 pub mod bytes;
 mod read;
 mod types;

@@ -1,5 +1,7 @@
 // Reads a book on standard input and prints a plain account of it: its charts and their motions in
 // words, or what is wrong, with the refusal's number and byte.
+#![tactic(auto)]
+
 use book::{Head, Kind};
 use chart::Timers;
 use faults::BookFault;

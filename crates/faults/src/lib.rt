@@ -1,4 +1,6 @@
 // Why a book, a chart, a board or a motion is refused, and the five numbers that tell it.
+#![tactic(auto)]
+
 mod told;
 mod types;
 

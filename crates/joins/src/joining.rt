@@ -18,7 +18,7 @@ use table::{Found, MOST_SIZE, pivot_any, read, row_start};
 fn joined_cell<B: Bound>(table: &[B], other: &[B], n: usize, u: usize, v: usize) -> B
     requires few { (n ≤ 8) × ((u < 3 * n + 3) × (v < 3 * n + 3)) }
     requires room { ((2 * n + 2) * (2 * n + 2) ≤ length table.now) × ((2 * n + 2) * (2 * n + 2) ≤ length other.now) }
-    ensures { result ≡ joined_cell meaning n table.now other.now u v }
+    ensures { result ≡ joined_cell B.meaning n table.now other.now u v }
 {
     let side = 2 * n + 2;
     let middle = n + 1;
@@ -41,8 +41,8 @@ fn joined_cell<B: Bound>(table: &[B], other: &[B], n: usize, u: usize, v: usize)
 fn joined_row<B: Bound>(work: &mut [B], start: usize, table: &[B], other: &[B], n: usize, u: usize)
     requires few { (n ≤ 8) × ((u < 3 * n + 3) × (start + (3 * n + 3) ≤ length work.old)) }
     requires room { ((2 * n + 2) * (2 * n + 2) ≤ length table.now) × ((2 * n + 2) * (2 * n + 2) ≤ length other.now) }
-    ensures only { Only meaning start (3 * n + 3) work.old work.new }
-    ensures row { Holds meaning start (3 * n + 3) (joined_cell meaning n table.now other.now u) work.new }
+    ensures only { Only B.meaning start (3 * n + 3) work.old work.new }
+    ensures row { Holds B.meaning start (3 * n + 3) (joined_cell B.meaning n table.now other.now u) work.new }
 {
     for v in 0..3 * n + 3 {
         work[start + v] = joined_cell(table, other, n, u, v);
@@ -53,8 +53,8 @@ fn joined_row<B: Bound>(work: &mut [B], start: usize, table: &[B], other: &[B], 
 fn lay_out<B: Bound>(work: &mut [B], table: &[B], other: &[B], n: usize)
     requires few { (n ≤ 8) × ((3 * n + 3) * (3 * n + 3) ≤ length work.old) }
     requires room { ((2 * n + 2) * (2 * n + 2) ≤ length table.now) × ((2 * n + 2) * (2 * n + 2) ≤ length other.now) }
-    ensures cells { Rows meaning (3 * n + 3) (3 * n + 3) (joined_cell meaning n table.now other.now) work.new }
-    ensures beyond { Beyond meaning ((3 * n + 3) * (3 * n + 3)) work.old work.new }
+    ensures cells { Rows B.meaning (3 * n + 3) (3 * n + 3) (joined_cell B.meaning n table.now other.now) work.new }
+    ensures beyond { Beyond B.meaning ((3 * n + 3) * (3 * n + 3)) work.old work.new }
 {
     let side = 3 * n + 3;
     for u in 0..side {
@@ -66,9 +66,9 @@ fn lay_out<B: Bound>(work: &mut [B], table: &[B], other: &[B], n: usize)
 // and no more pivots, where the next node's place does not allow 0.
 fn close<B: Bound>(work: &mut [B], n: usize) -> bool
     requires { (n ≤ 8) × ((3 * n + 3) * (3 * n + 3) ≤ length work.old) }
-    ensures closed { Small meaning (3 * n + 3) work.old → result ≡ true → (c d : Chart) (first second : List B) → JoiningBounds meaning n c d (table_of meaning n first) (table_of meaning n second) 0 (cell meaning (3 * n + 3) work.old) → JoiningBounds meaning n c d (table_of meaning n first) (table_of meaning n second) (n + 1) (cell meaning (3 * n + 3) work.new) }
-    ensures never { Small meaning (3 * n + 3) work.old → result ≡ false → (c d : Chart) (first second : List B) → JoiningBounds meaning n c d (table_of meaning n first) (table_of meaning n second) 0 (cell meaning (3 * n + 3) work.old) → NeverRuns meaning.differences n (c ++ d) }
-    ensures beyond { Beyond meaning ((3 * n + 3) * (3 * n + 3)) work.old work.new }
+    ensures closed { Small B.meaning (3 * n + 3) work.old → result ≡ true → (c d : Chart) (first second : List B) → JoiningBounds B.meaning n c d (table_of B.meaning n first) (table_of B.meaning n second) 0 (cell B.meaning (3 * n + 3) work.old) → JoiningBounds B.meaning n c d (table_of B.meaning n first) (table_of B.meaning n second) (n + 1) (cell B.meaning (3 * n + 3) work.new) }
+    ensures never { Small B.meaning (3 * n + 3) work.old → result ≡ false → (c d : Chart) (first second : List B) → JoiningBounds B.meaning n c d (table_of B.meaning n first) (table_of B.meaning n second) 0 (cell B.meaning (3 * n + 3) work.old) → NeverRuns B.meaning.differences n (c ++ d) }
+    ensures beyond { Beyond B.meaning ((3 * n + 3) * (3 * n + 3)) work.old work.new }
 {
     let side = 3 * n + 3;
     for k in 0..n + 1 {
@@ -93,7 +93,7 @@ fn outer_node(u: usize, n: usize) -> usize
 // The bound in row `u` and column `v` of the joined chart's table.
 fn outer<B: Bound>(work: &[B], n: usize, u: usize, v: usize) -> B
     requires { (n ≤ 8) × ((u < 2 * n + 2) × ((v < 2 * n + 2) × ((3 * n + 3) * (3 * n + 3) ≤ length work.now))) }
-    ensures { result ≡ outer_cell meaning n work.now u v }
+    ensures { result ≡ outer_cell B.meaning n work.now u v }
 {
     read(work, 3 * n + 3, outer_node(u, n), outer_node(v, n))
 }
@@ -101,8 +101,8 @@ fn outer<B: Bound>(work: &[B], n: usize, u: usize, v: usize) -> B
 // Whether no size in row `u` of the joined chart's table is above 2^40.
 fn row_small<B: Bound>(work: &[B], n: usize, u: usize) -> bool
     requires { (n ≤ 8) × ((u < 2 * n + 2) × ((3 * n + 3) * (3 * n + 3) ≤ length work.now)) }
-    ensures small { result ≡ true → SmallIn meaning n work.now u (2 * n + 2) }
-    ensures large { result ≡ false → LargeIn meaning n work.now u }
+    ensures small { result ≡ true → SmallIn B.meaning n work.now u (2 * n + 2) }
+    ensures large { result ≡ false → LargeIn B.meaning n work.now u }
 {
     for v in 0..2 * n + 2 {
         if outer(work, n, u, v).size() > MOST_SIZE {
@@ -115,8 +115,8 @@ fn row_small<B: Bound>(work: &[B], n: usize, u: usize) -> bool
 // Whether no size in the joined chart's table is above 2^40.
 fn all_small<B: Bound>(work: &[B], n: usize) -> bool
     requires { (n ≤ 8) × ((3 * n + 3) * (3 * n + 3) ≤ length work.now) }
-    ensures small { result ≡ true → (u : ℕ) → u < 2 * n + 2 → SmallIn meaning n work.now u (2 * n + 2) }
-    ensures large { result ≡ false → (u : ℕ) × (u < 2 * n + 2) × LargeIn meaning n work.now u }
+    ensures small { result ≡ true → (u : ℕ) → u < 2 * n + 2 → SmallIn B.meaning n work.now u (2 * n + 2) }
+    ensures large { result ≡ false → (u : ℕ) × (u < 2 * n + 2) × LargeIn B.meaning n work.now u }
 {
     for u in 0..2 * n + 2 {
         if !row_small(work, n, u) {
@@ -130,8 +130,8 @@ fn all_small<B: Bound>(work: &[B], n: usize) -> bool
 fn outer_row<B: Bound>(table: &mut [B], start: usize, work: &[B], n: usize, u: usize)
     requires few { (n ≤ 8) × ((u < 2 * n + 2) × (start + (2 * n + 2) ≤ length table.old)) }
     requires room { (3 * n + 3) * (3 * n + 3) ≤ length work.now }
-    ensures only { Only meaning start (2 * n + 2) table.old table.new }
-    ensures row { Holds meaning start (2 * n + 2) (outer_cell meaning n work.now u) table.new }
+    ensures only { Only B.meaning start (2 * n + 2) table.old table.new }
+    ensures row { Holds B.meaning start (2 * n + 2) (outer_cell B.meaning n work.now u) table.new }
 {
     for v in 0..2 * n + 2 {
         table[start + v] = outer(work, n, u, v);
@@ -142,8 +142,8 @@ fn outer_row<B: Bound>(table: &mut [B], start: usize, work: &[B], n: usize, u: u
 fn take_out<B: Bound>(table: &mut [B], work: &[B], n: usize)
     requires few { (n ≤ 8) × ((2 * n + 2) * (2 * n + 2) ≤ length table.old) }
     requires room { (3 * n + 3) * (3 * n + 3) ≤ length work.now }
-    ensures cells { Rows meaning (2 * n + 2) (2 * n + 2) (outer_cell meaning n work.now) table.new }
-    ensures beyond { Beyond meaning ((2 * n + 2) * (2 * n + 2)) table.old table.new }
+    ensures cells { Rows B.meaning (2 * n + 2) (2 * n + 2) (outer_cell B.meaning n work.now) table.new }
+    ensures beyond { Beyond B.meaning ((2 * n + 2) * (2 * n + 2)) table.old table.new }
 {
     let side = 2 * n + 2;
     for u in 0..side {
@@ -155,10 +155,10 @@ fn take_out<B: Bound>(table: &mut [B], work: &[B], n: usize)
 // those of charts, every sum is within the reach. The work table is left for the caller to clear.
 pub fn join_any<B: Bound>(table: &mut [B], other: &[B], work: &mut [B], timers: Timers) -> Found
     requires { ((2 * timers.count + 2) * (2 * timers.count + 2) ≤ length table.old) × (((2 * timers.count + 2) * (2 * timers.count + 2) ≤ length other.now) × ((3 * timers.count + 3) * (3 * timers.count + 3) ≤ length work.old)) }
-    ensures finds { (c d : Chart) → ChartTable meaning timers.count c table.old → ChartTable meaning timers.count d other.now → ChartOf timers.count d → Finds meaning timers.count (c ++ d) table.new result }
+    ensures finds { (c d : Chart) → ChartTable B.meaning timers.count c table.old → ChartTable B.meaning timers.count d other.now → ChartOf timers.count d → Finds B.meaning timers.count (c ++ d) table.new result }
     ensures kept { Kept table.old table.new result }
-    ensures beyond { Beyond meaning ((2 * timers.count + 2) * (2 * timers.count + 2)) table.old table.new }
-    ensures lent { Beyond meaning ((3 * timers.count + 3) * (3 * timers.count + 3)) work.old work.new }
+    ensures beyond { Beyond B.meaning ((2 * timers.count + 2) * (2 * timers.count + 2)) table.old table.new }
+    ensures lent { Beyond B.meaning ((3 * timers.count + 3) * (3 * timers.count + 3)) work.old work.new }
 {
     let n = timers.count as usize;
     lay_out(work, table, other, n);
@@ -175,11 +175,11 @@ pub fn join_any<B: Bound>(table: &mut [B], other: &[B], work: &mut [B], timers: 
 // As `join_any`, on tables with no size above 2^40 that are good for charts.
 pub fn join<B: Bound>(table: &mut [B], other: &[B], work: &mut [B], timers: Timers) -> Found
     requires room { ((2 * timers.count + 2) * (2 * timers.count + 2) ≤ length table.old) × (((2 * timers.count + 2) * (2 * timers.count + 2) ≤ length other.now) × ((3 * timers.count + 3) * (3 * timers.count + 3) ≤ length work.old)) }
-    requires sizes { (Small meaning (2 * timers.count + 2) table.old) × (Small meaning (2 * timers.count + 2) other.now) }
-    ensures finds { (c d : Chart) → Good meaning.differences timers.count c (table_of meaning timers.count table.old) → Good meaning.differences timers.count d (table_of meaning timers.count other.now) → ChartOf timers.count d → Finds meaning timers.count (c ++ d) table.new result }
+    requires sizes { (Small B.meaning (2 * timers.count + 2) table.old) × (Small B.meaning (2 * timers.count + 2) other.now) }
+    ensures finds { (c d : Chart) → Good B.meaning.differences timers.count c (table_of B.meaning timers.count table.old) → Good B.meaning.differences timers.count d (table_of B.meaning timers.count other.now) → ChartOf timers.count d → Finds B.meaning timers.count (c ++ d) table.new result }
     ensures kept { Kept table.old table.new result }
-    ensures beyond { Beyond meaning ((2 * timers.count + 2) * (2 * timers.count + 2)) table.old table.new }
-    ensures lent { Beyond meaning ((3 * timers.count + 3) * (3 * timers.count + 3)) work.old work.new }
+    ensures beyond { Beyond B.meaning ((2 * timers.count + 2) * (2 * timers.count + 2)) table.old table.new }
+    ensures lent { Beyond B.meaning ((3 * timers.count + 3) * (3 * timers.count + 3)) work.old work.new }
 {
     join_any(table, other, work, timers)
 }

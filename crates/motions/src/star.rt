@@ -10,7 +10,7 @@ use table::{read, relax};
 // The bound on date `u` less the new now.
 fn to_new<B: Bound>(table: &[B], n: usize, work: &[B], u: usize) -> B
     requires { (n ≤ 8) × ((u < 2 * n + 2) × (((2 * n + 2) * (2 * n + 2) ≤ length table.now) × (6 * n + 6 ≤ length work.now))) }
-    ensures { result ≡ to_new meaning n table.now work.now u }
+    ensures { result ≡ to_new B.meaning n table.now work.now u }
 {
     let mut best = B::open();
     for i in 0..n + 1 {
@@ -22,7 +22,7 @@ fn to_new<B: Bound>(table: &[B], n: usize, work: &[B], u: usize) -> B
 // The bound on the new now less date `v`.
 fn from_new<B: Bound>(table: &[B], n: usize, work: &[B], v: usize) -> B
     requires { (n ≤ 8) × ((v < 2 * n + 2) × (((2 * n + 2) * (2 * n + 2) ≤ length table.now) × (6 * n + 6 ≤ length work.now))) }
-    ensures { result ≡ from_new meaning n table.now work.now v }
+    ensures { result ≡ from_new B.meaning n table.now work.now v }
 {
     let mut best = B::open();
     for i in 0..n {
@@ -34,8 +34,8 @@ fn from_new<B: Bound>(table: &[B], n: usize, work: &[B], v: usize) -> B
 // The bounds into the new now.
 fn spread_to<B: Bound>(table: &[B], n: usize, work: &mut [B])
     requires { (n ≤ 8) × (((2 * n + 2) * (2 * n + 2) ≤ length table.now) × (6 * n + 6 ≤ length work.old)) }
-    ensures only { Only meaning (2 * n + 2) (2 * n + 2) work.old work.new }
-    ensures row { Holds meaning (2 * n + 2) (2 * n + 2) (to_new meaning n table.now work.old) work.new }
+    ensures only { Only B.meaning (2 * n + 2) (2 * n + 2) work.old work.new }
+    ensures row { Holds B.meaning (2 * n + 2) (2 * n + 2) (to_new B.meaning n table.now work.old) work.new }
 {
     let side = 2 * n + 2;
     for u in 0..side {
@@ -47,8 +47,8 @@ fn spread_to<B: Bound>(table: &[B], n: usize, work: &mut [B])
 // The bounds out of the new now.
 fn spread_from<B: Bound>(table: &[B], n: usize, work: &mut [B])
     requires { (n ≤ 8) × (((2 * n + 2) * (2 * n + 2) ≤ length table.now) × (6 * n + 6 ≤ length work.old)) }
-    ensures only { Only meaning (4 * n + 4) (2 * n + 2) work.old work.new }
-    ensures row { Holds meaning (4 * n + 4) (2 * n + 2) (from_new meaning n table.now work.old) work.new }
+    ensures only { Only B.meaning (4 * n + 4) (2 * n + 2) work.old work.new }
+    ensures row { Holds B.meaning (4 * n + 4) (2 * n + 2) (from_new B.meaning n table.now work.old) work.new }
 {
     let start = 4 * n + 4;
     for v in 0..2 * n + 2 {
@@ -60,7 +60,7 @@ fn spread_from<B: Bound>(table: &[B], n: usize, work: &mut [B])
 // All bounds between the nodes and the new now, from the direct ones at the front of the work table.
 pub(crate) fn spread<B: Bound>(table: &[B], n: usize, work: &mut [B])
     requires { (n ≤ 8) × (((2 * n + 2) * (2 * n + 2) ≤ length table.now) × (6 * n + 6 ≤ length work.old)) }
-    ensures { SpreadTo meaning n table.now work.old work.new }
+    ensures { SpreadTo B.meaning n table.now work.old work.new }
 {
     spread_to(table, n, work);
     spread_from(table, n, work);

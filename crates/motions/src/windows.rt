@@ -12,7 +12,7 @@ use table::clear;
 
 // A bound tightened by "< c" or "≤ c".
 fn tightened<B: Bound>(held: B, strict: bool, c: i64) -> B
-    ensures { result ≡ tightened_by meaning held (meaning.written strict c) }
+    ensures { result ≡ tightened_by B.meaning held (B.meaning.written strict c) }
 {
     match B::written(strict, c) {
         Some(bound) => keep_tighter(held, bound),
@@ -23,7 +23,7 @@ fn tightened<B: Bound>(held: B, strict: bool, c: i64) -> B
 // Tightens one place.
 fn write<B: Bound>(work: &mut [B], place: usize, strict: bool, c: i64)
     requires { place < length work.old }
-    ensures { work.new ≡ slice_set work.old place (tightened_by meaning (at meaning work.old place) (meaning.written strict c)) }
+    ensures { work.new ≡ slice_set work.old place (tightened_by B.meaning (at B.meaning work.old place) (B.meaning.written strict c)) }
 {
     work[place] = tightened(work[place], strict, c);
 }
@@ -31,7 +31,7 @@ fn write<B: Bound>(work: &mut [B], place: usize, strict: bool, c: i64)
 // One window more. An upper one bounds the new now less the timer's date, a lower one the reverse.
 fn note<B: Bound>(work: &mut [B], n: usize, window: Window)
     requires { (n ≤ 8) × ((window.timer ≤ n) × (2 * n + 2 ≤ length work.old)) }
-    ensures { Noted meaning n window work.old work.new }
+    ensures { Noted B.meaning n window work.old work.new }
 {
     let lower = window.timer as usize;
     let upper = n + 1 + lower;
@@ -52,8 +52,8 @@ fn note<B: Bound>(work: &mut [B], n: usize, window: Window)
 pub(crate) fn direct<B: Bound>(work: &mut [B], n: usize, motion: &Motion)
     requires few { (n ≤ 8) × (2 * n + 2 ≤ length work.old) }
     requires timers { All (WindowOf n) (held_motion motion.now).windows }
-    ensures bounds { (zero : B) → meaning.written false (pos 0) ≡ Some zero → Direct meaning zero n (held_motion motion.now).windows work.new }
-    ensures beyond { Beyond meaning (2 * n + 2) work.old work.new }
+    ensures bounds { (zero : B) → B.meaning.written false (pos 0) ≡ Some zero → Direct B.meaning zero n (held_motion motion.now).windows work.new }
+    ensures beyond { Beyond B.meaning (2 * n + 2) work.old work.new }
 {
     clear(work, 2 * n + 2);
     work[0] = zero();

@@ -17,8 +17,8 @@ use table::{Found, MOST_SIZE, pick, read, relax, row_start, sum_or_open};
 // Whether every way from the new now to a timer's date and back allows 0, where these sums are answered.
 fn passes<B: Bound>(work: &[B], n: usize) -> bool
     requires { (n ≤ 8) × (6 * n + 6 ≤ length work.now) }
-    ensures all { StarFits meaning n work.now → result ≡ true → (i : ℕ) → i < n → TripAllows meaning n work.now i }
-    ensures one { StarFits meaning n work.now → result ≡ false → (i : ℕ) × (i < n) × (TripAllows meaning n work.now i → ⊥) }
+    ensures all { StarFits B.meaning n work.now → result ≡ true → (i : ℕ) → i < n → TripAllows B.meaning n work.now i }
+    ensures one { StarFits B.meaning n work.now → result ≡ false → (i : ℕ) × (i < n) × (TripAllows B.meaning n work.now i → ⊥) }
 {
     for i in 0..n {
         let onward = pick(work, n + 2 + i);
@@ -49,7 +49,7 @@ fn name_of(u: usize, n: usize, motion: &Motion) -> usize
 // What stands between the nodes `p` and `q` after the pivot on the new now.
 fn settled<B: Bound>(work: &[B], n: usize, held: B, p: usize, q: usize, zero: B) -> B
     requires { (n ≤ 8) × (6 * n + 6 ≤ length work.now) }
-    ensures { result ≡ settled_cell meaning zero n work.now held p q }
+    ensures { result ≡ settled_cell B.meaning zero n work.now held p q }
 {
     let side = 2 * n + 2;
     if p < side {
@@ -69,8 +69,8 @@ fn settled<B: Bound>(work: &[B], n: usize, held: B, p: usize, q: usize, zero: B)
 // Whether no size in row `u` of the new table is above 2^40.
 fn row_fits<B: Bound>(table: &[B], n: usize, work: &[B], motion: &Motion, u: usize, zero: B) -> bool
     requires { (n ≤ 8) × ((u < 2 * n + 2) × (((2 * n + 2) * (2 * n + 2) ≤ length table.now) × (6 * n + 6 ≤ length work.now))) }
-    ensures all { result ≡ true → (v : ℕ) → v < 2 * n + 2 → meaning.size_of (new_cell meaning zero n (held_motion motion.now) table.now work.now u v) ≤ 2 ^ 40 }
-    ensures one { result ≡ false → (v : ℕ) × (v < 2 * n + 2) × (2 ^ 40 < meaning.size_of (new_cell meaning zero n (held_motion motion.now) table.now work.now u v)) }
+    ensures all { result ≡ true → (v : ℕ) → v < 2 * n + 2 → B.meaning.size_of (new_cell B.meaning zero n (held_motion motion.now) table.now work.now u v) ≤ 2 ^ 40 }
+    ensures one { result ≡ false → (v : ℕ) × (v < 2 * n + 2) × (2 ^ 40 < B.meaning.size_of (new_cell B.meaning zero n (held_motion motion.now) table.now work.now u v)) }
 {
     let p = name_of(u, n, motion);
     for v in 0..2 * n + 2 {
@@ -86,8 +86,8 @@ fn row_fits<B: Bound>(table: &[B], n: usize, work: &[B], motion: &Motion, u: usi
 // Whether no size in the new table is above 2^40.
 fn all_fit<B: Bound>(table: &[B], n: usize, work: &[B], motion: &Motion, zero: B) -> bool
     requires { (n ≤ 8) × (((2 * n + 2) * (2 * n + 2) ≤ length table.now) × (6 * n + 6 ≤ length work.now)) }
-    ensures all { result ≡ true → (u v : ℕ) → u < 2 * n + 2 → v < 2 * n + 2 → meaning.size_of (new_cell meaning zero n (held_motion motion.now) table.now work.now u v) ≤ 2 ^ 40 }
-    ensures one { result ≡ false → (u : ℕ) × (v : ℕ) × (u < 2 * n + 2) × (v < 2 * n + 2) × (2 ^ 40 < meaning.size_of (new_cell meaning zero n (held_motion motion.now) table.now work.now u v)) }
+    ensures all { result ≡ true → (u v : ℕ) → u < 2 * n + 2 → v < 2 * n + 2 → B.meaning.size_of (new_cell B.meaning zero n (held_motion motion.now) table.now work.now u v) ≤ 2 ^ 40 }
+    ensures one { result ≡ false → (u : ℕ) × (v : ℕ) × (u < 2 * n + 2) × (v < 2 * n + 2) × (2 ^ 40 < B.meaning.size_of (new_cell B.meaning zero n (held_motion motion.now) table.now work.now u v)) }
 {
     for u in 0..2 * n + 2 {
         if !row_fits(table, n, work, motion, u, zero) {
@@ -103,7 +103,7 @@ const HALF_SIZE: u64 = 549_755_813_888;
 // Whether every bound between a node and the new now has a size of at most 2^39.
 fn modest<B: Bound>(work: &[B], n: usize) -> bool
     requires { (n ≤ 8) × (6 * n + 6 ≤ length work.now) }
-    ensures { result ≡ true → (i : ℕ) → 2 * n + 2 ≤ i → i < 6 * n + 6 → meaning.size_of (at meaning work.now i) ≤ 2 ^ 39 }
+    ensures { result ≡ true → (i : ℕ) → 2 * n + 2 ≤ i → i < 6 * n + 6 → B.meaning.size_of (at B.meaning work.now i) ≤ 2 ^ 39 }
 {
     for i in 2 * n + 2..6 * n + 6 {
         if pick(work, i).size() > HALF_SIZE {
@@ -116,8 +116,8 @@ fn modest<B: Bound>(work: &[B], n: usize) -> bool
 // As `all_fit`, with a quick yes: sums of two sizes up to 2^39 need no look at every place.
 fn sizes_fit<B: Bound>(table: &[B], n: usize, work: &[B], motion: &Motion, zero: B) -> bool
     requires { (n ≤ 8) × (((2 * n + 2) * (2 * n + 2) ≤ length table.now) × (6 * n + 6 ≤ length work.now)) }
-    ensures all { Small meaning (2 * n + 2) table.now → meaning.size_of zero ≤ 1 → result ≡ true → (u v : ℕ) → u < 2 * n + 2 → v < 2 * n + 2 → meaning.size_of (new_cell meaning zero n (held_motion motion.now) table.now work.now u v) ≤ 2 ^ 40 }
-    ensures one { result ≡ false → (u : ℕ) × (v : ℕ) × (u < 2 * n + 2) × (v < 2 * n + 2) × (2 ^ 40 < meaning.size_of (new_cell meaning zero n (held_motion motion.now) table.now work.now u v)) }
+    ensures all { Small B.meaning (2 * n + 2) table.now → B.meaning.size_of zero ≤ 1 → result ≡ true → (u v : ℕ) → u < 2 * n + 2 → v < 2 * n + 2 → B.meaning.size_of (new_cell B.meaning zero n (held_motion motion.now) table.now work.now u v) ≤ 2 ^ 40 }
+    ensures one { result ≡ false → (u : ℕ) × (v : ℕ) × (u < 2 * n + 2) × (v < 2 * n + 2) × (2 ^ 40 < B.meaning.size_of (new_cell B.meaning zero n (held_motion motion.now) table.now work.now u v)) }
 {
     modest(work, n) || all_fit(table, n, work, motion, zero)
 }
@@ -125,8 +125,8 @@ fn sizes_fit<B: Bound>(table: &[B], n: usize, work: &[B], motion: &Motion, zero:
 // Row `u` of the new table, in the place of the old one.
 fn settle_row<B: Bound>(table: &mut [B], n: usize, work: &[B], motion: &Motion, u: usize, zero: B)
     requires { (n ≤ 8) × ((u < 2 * n + 2) × (((2 * n + 2) * (2 * n + 2) ≤ length table.old) × (6 * n + 6 ≤ length work.now))) }
-    ensures only { Only meaning (u * (2 * n + 2)) (2 * n + 2) table.old table.new }
-    ensures row { Holds meaning (u * (2 * n + 2)) (2 * n + 2) (new_cell meaning zero n (held_motion motion.now) table.old work.now u) table.new }
+    ensures only { Only B.meaning (u * (2 * n + 2)) (2 * n + 2) table.old table.new }
+    ensures row { Holds B.meaning (u * (2 * n + 2)) (2 * n + 2) (new_cell B.meaning zero n (held_motion motion.now) table.old work.now u) table.new }
 {
     let start = row_start(u, 2 * n + 2);
     let p = name_of(u, n, motion);
@@ -140,8 +140,8 @@ fn settle_row<B: Bound>(table: &mut [B], n: usize, work: &[B], motion: &Motion, 
 // The new table, in the place of the old one.
 fn settle<B: Bound>(table: &mut [B], n: usize, work: &[B], motion: &Motion, zero: B)
     requires { (n ≤ 8) × (((2 * n + 2) * (2 * n + 2) ≤ length table.old) × (6 * n + 6 ≤ length work.now)) }
-    ensures cells { Rows meaning (2 * n + 2) (2 * n + 2) (new_cell meaning zero n (held_motion motion.now) table.old work.now) table.new }
-    ensures beyond { Beyond meaning ((2 * n + 2) * (2 * n + 2)) table.old table.new }
+    ensures cells { Rows B.meaning (2 * n + 2) (2 * n + 2) (new_cell B.meaning zero n (held_motion motion.now) table.old work.now) table.new }
+    ensures beyond { Beyond B.meaning ((2 * n + 2) * (2 * n + 2)) table.old table.new }
 {
     for u in 0..2 * n + 2 {
         settle_row(table, n, work, motion, u, zero);
@@ -151,9 +151,9 @@ fn settle<B: Bound>(table: &mut [B], n: usize, work: &[B], motion: &Motion, zero
 // What is found from the bounds of the new now.
 fn finish<B: Bound>(table: &mut [B], n: usize, work: &[B], motion: &Motion, zero: B) -> Found
     requires { (n ≤ 8) × (((2 * n + 2) * (2 * n + 2) ≤ length table.old) × (6 * n + 6 ≤ length work.now)) }
-    ensures found { StarFits meaning n work.now → Small meaning (2 * n + 2) table.old → meaning.size_of zero ≤ 1 → Settled meaning zero n (held_motion motion.now) table.old work.now table.new result }
+    ensures found { StarFits B.meaning n work.now → Small B.meaning (2 * n + 2) table.old → B.meaning.size_of zero ≤ 1 → Settled B.meaning zero n (held_motion motion.now) table.old work.now table.new result }
     ensures kept { Kept table.old table.new result }
-    ensures beyond { Beyond meaning ((2 * n + 2) * (2 * n + 2)) table.old table.new }
+    ensures beyond { Beyond B.meaning ((2 * n + 2) * (2 * n + 2)) table.old table.new }
 {
     if !passes(work, n) {
         return Found::Never;
@@ -175,10 +175,10 @@ pub fn motion_any<B: Bound>(
 ) -> Found
     requires room { ((2 * timers.count + 2) * (2 * timers.count + 2) ≤ length table.old) × (6 * timers.count + 6 ≤ length work.old) }
     requires fit { MotionOf timers.count (held_motion motion.now) }
-    ensures finds { (c : Chart) → ChartTable meaning timers.count c table.old → Finds meaning timers.count (c ++ held_motion motion.now ∷ []) table.new result }
+    ensures finds { (c : Chart) → ChartTable B.meaning timers.count c table.old → Finds B.meaning timers.count (c ++ held_motion motion.now ∷ []) table.new result }
     ensures kept { Kept table.old table.new result }
-    ensures beyond { Beyond meaning ((2 * timers.count + 2) * (2 * timers.count + 2)) table.old table.new }
-    ensures lent { Beyond meaning (6 * timers.count + 6) work.old work.new }
+    ensures beyond { Beyond B.meaning ((2 * timers.count + 2) * (2 * timers.count + 2)) table.old table.new }
+    ensures lent { Beyond B.meaning (6 * timers.count + 6) work.old work.new }
 {
     let n = timers.count as usize;
     let zero = zero();
@@ -190,12 +190,12 @@ pub fn motion_any<B: Bound>(
 // As `motion_any`, on a table with no size above 2^40 that is good for a chart.
 pub fn motion<B: Bound>(table: &mut [B], work: &mut [B], timers: Timers, motion: &Motion) -> Found
     requires room { ((2 * timers.count + 2) * (2 * timers.count + 2) ≤ length table.old) × (6 * timers.count + 6 ≤ length work.old) }
-    requires small { Small meaning (2 * timers.count + 2) table.old }
+    requires small { Small B.meaning (2 * timers.count + 2) table.old }
     requires fit { MotionOf timers.count (held_motion motion.now) }
-    ensures finds { (c : Chart) → Good meaning.differences timers.count c (table_of meaning timers.count table.old) → Finds meaning timers.count (c ++ held_motion motion.now ∷ []) table.new result }
+    ensures finds { (c : Chart) → Good B.meaning.differences timers.count c (table_of B.meaning timers.count table.old) → Finds B.meaning timers.count (c ++ held_motion motion.now ∷ []) table.new result }
     ensures kept { Kept table.old table.new result }
-    ensures beyond { Beyond meaning ((2 * timers.count + 2) * (2 * timers.count + 2)) table.old table.new }
-    ensures lent { Beyond meaning (6 * timers.count + 6) work.old work.new }
+    ensures beyond { Beyond B.meaning ((2 * timers.count + 2) * (2 * timers.count + 2)) table.old table.new }
+    ensures lent { Beyond B.meaning (6 * timers.count + 6) work.old work.new }
 {
     motion_any(table, work, timers, motion)
 }

@@ -1,6 +1,8 @@
 // A test of the reader: each line on standard input has a name and a book in hexadecimal, and the
 // program prints for it the fault of the book, or of each chart its count of motions or its fault.
 // A token ends in `*n` where it stands n times. `stdout` has what the rules give.
+#![tactic(auto)]
+
 use faults::BookFault;
 use std::alloc::{AllocError, Global};
 use std::io;

@@ -1,4 +1,6 @@
 // The whole promise: any list of calls on any boards of one kind.
+#![tactic(auto)]
+
 mod calls;
 mod on;
 mod owned;

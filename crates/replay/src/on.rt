@@ -17,8 +17,8 @@ pub(crate) fn open_on<B: Bound>(
     n: u8,
 ) -> Result<(), BoardFault>
     ensures answer { OpenIs (length table.old) n result }
-    ensures stands { (s : Standing) → StandsFor meaning header.old table.old s → StandsFor meaning header.new table.new (if is_ok result then opened n s else s) }
-    ensures table { (s : Standing) → TableLeft meaning (opened n s) table.old table.new result }
+    ensures stands { (s : Standing) → StandsFor B.meaning header.old table.old s → StandsFor B.meaning header.new table.new (if is_ok result then opened n s else s) }
+    ensures table { (s : Standing) → TableLeft B.meaning (opened n s) table.old table.new result }
 {
     let mut board = Board::resume(*header, table);
     let r = board.open(n);
@@ -32,7 +32,7 @@ pub(crate) fn motion_on<B: Bound>(
     work: &mut [B],
     bytes: &[u8],
 ) -> Result<usize, BoardFault>
-    ensures { (s : Standing) → StandsFor meaning header.old table.old s → MotionDone meaning (length work.old) bytes.now header.new table.old table.new work.old work.new result s }
+    ensures { (s : Standing) → StandsFor B.meaning header.old table.old s → MotionDone B.meaning (length work.old) bytes.now header.new table.old table.new work.old work.new result s }
 {
     let mut board = Board::resume(*header, table);
     let r = board.motion(work, bytes);
@@ -47,7 +47,7 @@ pub(crate) fn join_on<B: Bound>(
     other: &mut [B],
     work: &mut [B],
 ) -> Result<(), BoardFault>
-    ensures done { (s t : Standing) → StandsFor meaning header.old table.old s → StandsFor meaning others other.old t → JoinDone meaning (length work.old) header.new table.old table.new work.old work.new result s t }
+    ensures done { (s t : Standing) → StandsFor B.meaning header.old table.old s → StandsFor B.meaning others other.old t → JoinDone B.meaning (length work.old) header.new table.old table.new work.old work.new result s t }
     ensures same { other.new ≡ other.old }
 {
     let mut board = Board::resume(*header, table);
@@ -58,7 +58,7 @@ pub(crate) fn join_on<B: Bound>(
 }
 
 pub(crate) fn runs_on<B: Bound>(header: Header, table: &mut [B]) -> Result<bool, BoardFault>
-    ensures answer { (s : Standing) → StandsFor meaning header table.old s → RunsIs meaning s result }
+    ensures answer { (s : Standing) → StandsFor B.meaning header table.old s → RunsIs B.meaning s result }
     ensures same { table.new ≡ table.old }
 {
     let board = Board::resume(header, table);
@@ -66,7 +66,7 @@ pub(crate) fn runs_on<B: Bound>(header: Header, table: &mut [B]) -> Result<bool,
 }
 
 pub(crate) fn count_on<B: Bound>(header: Header, table: &mut [B]) -> Result<u32, BoardFault>
-    ensures answer { (s : Standing) → StandsFor meaning header table.old s → CountIs s result }
+    ensures answer { (s : Standing) → StandsFor B.meaning header table.old s → CountIs s result }
     ensures same { table.new ≡ table.old }
 {
     let board = Board::resume(header, table);
@@ -79,7 +79,7 @@ pub(crate) fn within_on<B: Bound>(
     others: Header,
     other: &mut [B],
 ) -> Result<Within, BoardFault>
-    ensures answer { (s t : Standing) → StandsFor meaning header table.old s → StandsFor meaning others other.old t → WithinIs meaning s t result }
+    ensures answer { (s t : Standing) → StandsFor B.meaning header table.old s → StandsFor B.meaning others other.old t → WithinIs B.meaning s t result }
     ensures same { table.new ≡ table.old }
     ensures other { other.new ≡ other.old }
 {
@@ -93,7 +93,7 @@ pub(crate) fn limit_on<B: Bound>(
     table: &mut [B],
     name: Name,
 ) -> Result<B, BoardFault>
-    ensures answer { (s : Standing) → StandsFor meaning header table.old s → LimitIs meaning s name result }
+    ensures answer { (s : Standing) → StandsFor B.meaning header table.old s → LimitIs B.meaning s name result }
     ensures same { table.new ≡ table.old }
 {
     let board = Board::resume(header, table);
@@ -101,7 +101,7 @@ pub(crate) fn limit_on<B: Bound>(
 }
 
 pub(crate) fn span_on<B: Bound>(header: Header, table: &mut [B]) -> Result<(B, B), BoardFault>
-    ensures answer { (s : Standing) → StandsFor meaning header table.old s → SpanIs meaning s result }
+    ensures answer { (s : Standing) → StandsFor B.meaning header table.old s → SpanIs B.meaning s result }
     ensures same { table.new ≡ table.old }
 {
     let board = Board::resume(header, table);

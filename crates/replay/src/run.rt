@@ -13,7 +13,7 @@ use std::alloc::{AllocError, Global};
 
 // Makes every board Blank again, on its table as it is.
 fn empty_all<B: Bound>(slots: &mut [Slot<B>])
-    ensures { Emptied meaning slots.old slots.new }
+    ensures { Emptied B.meaning slots.old slots.new }
 {
     for i in 0..slots.len() {
         slots[i].header = Header::blank();
@@ -29,7 +29,7 @@ fn run<B: Bound>(
     answers: &mut Vec<Answer<B>>,
 )
     requires { (answers.old.items ≡ []) × (length calls.now ≤ vec_capacity answers.old) }
-    ensures { ServesAll meaning calls.now answers.new.items slots.old works.old slots.new works.new }
+    ensures { ServesAll B.meaning calls.now answers.new.items slots.old works.old slots.new works.new }
 {
     for i in 0..calls.len() {
         let answer = step(heap, slots, works, &calls[i]);
@@ -46,7 +46,7 @@ pub fn replay<B: Bound>(
     calls: &[Call],
 ) -> Result<Vec<Answer<B>>, AllocError>
     ensures { MatchResult result
-        (λ answers. (charts : List Standing) × Lawful meaning (snapshot (all_blank slots.old) slots.old works.old) calls.now answers.items (snapshot charts slots.new works.new) × AllOwn meaning slots.new charts)
+        (λ answers. (charts : List Standing) × Lawful B.meaning (snapshot (all_blank slots.old) slots.old works.old) calls.now answers.items (snapshot charts slots.new works.new) × AllOwn B.meaning slots.new charts)
         (λ _. (slots.new ≡ slots.old) × (works.new ≡ works.old)) }
 {
     let mut answers = Vec::with_capacity(heap, calls.len())?;

@@ -11,7 +11,7 @@ use std::alloc::Global;
 use std::mem;
 
 fn open_at<B: Bound>(slots: &mut [Slot<B>], i: usize, n: u8) -> Answer<B>
-    ensures { (works : List (Vector B Heap)) → Serves meaning (Call.Open i n) result slots.old works slots.new works }
+    ensures { (works : List (Vector B Heap)) → Serves B.meaning (Call.Open i n) result slots.old works slots.new works }
 {
     if i >= slots.len() {
         return Answer::Absent;
@@ -26,7 +26,7 @@ fn motion_at<B: Bound>(
     w: usize,
     bytes: &Vec<u8>,
 ) -> Answer<B>
-    ensures { Serves meaning (Call.Motion i w bytes.now) result slots.old works.old slots.new works.new }
+    ensures { Serves B.meaning (Call.Motion i w bytes.now) result slots.old works.old slots.new works.new }
 {
     if i >= slots.len() || w >= works.len() {
         return Answer::Absent;
@@ -43,7 +43,7 @@ fn join_at<B: Bound>(
     j: usize,
     w: usize,
 ) -> Answer<B>
-    ensures { Serves meaning (Call.Join i j w) result slots.old works.old slots.new works.new }
+    ensures { Serves B.meaning (Call.Join i j w) result slots.old works.old slots.new works.new }
 {
     if i >= slots.len() || j >= slots.len() || i == j || w >= works.len() {
         return Answer::Absent;
@@ -55,7 +55,7 @@ fn join_at<B: Bound>(
 }
 
 fn runs_at<B: Bound>(slots: &mut [Slot<B>], i: usize) -> Answer<B>
-    ensures { (works : List (Vector B Heap)) → Serves meaning (Call.Runs i) result slots.old works slots.new works }
+    ensures { (works : List (Vector B Heap)) → Serves B.meaning (Call.Runs i) result slots.old works slots.new works }
 {
     if i >= slots.len() {
         return Answer::Absent;
@@ -64,7 +64,7 @@ fn runs_at<B: Bound>(slots: &mut [Slot<B>], i: usize) -> Answer<B>
 }
 
 fn count_at<B: Bound>(slots: &mut [Slot<B>], i: usize) -> Answer<B>
-    ensures { (works : List (Vector B Heap)) → Serves meaning (Call.Count i) result slots.old works slots.new works }
+    ensures { (works : List (Vector B Heap)) → Serves B.meaning (Call.Count i) result slots.old works slots.new works }
 {
     if i >= slots.len() {
         return Answer::Absent;
@@ -73,7 +73,7 @@ fn count_at<B: Bound>(slots: &mut [Slot<B>], i: usize) -> Answer<B>
 }
 
 fn within_at<B: Bound>(heap: Global, slots: &mut [Slot<B>], i: usize, j: usize) -> Answer<B>
-    ensures { (works : List (Vector B Heap)) → Serves meaning (Call.Within i j) result slots.old works slots.new works }
+    ensures { (works : List (Vector B Heap)) → Serves B.meaning (Call.Within i j) result slots.old works slots.new works }
 {
     if i >= slots.len() || j >= slots.len() || i == j {
         return Answer::Absent;
@@ -85,7 +85,7 @@ fn within_at<B: Bound>(heap: Global, slots: &mut [Slot<B>], i: usize, j: usize) 
 }
 
 fn limit_at<B: Bound>(slots: &mut [Slot<B>], i: usize, l: Name) -> Answer<B>
-    ensures { (works : List (Vector B Heap)) → Serves meaning (Call.Limit i l) result slots.old works slots.new works }
+    ensures { (works : List (Vector B Heap)) → Serves B.meaning (Call.Limit i l) result slots.old works slots.new works }
 {
     if i >= slots.len() {
         return Answer::Absent;
@@ -94,7 +94,7 @@ fn limit_at<B: Bound>(slots: &mut [Slot<B>], i: usize, l: Name) -> Answer<B>
 }
 
 fn span_at<B: Bound>(slots: &mut [Slot<B>], i: usize) -> Answer<B>
-    ensures { (works : List (Vector B Heap)) → Serves meaning (Call.Span i) result slots.old works slots.new works }
+    ensures { (works : List (Vector B Heap)) → Serves B.meaning (Call.Span i) result slots.old works slots.new works }
 {
     if i >= slots.len() {
         return Answer::Absent;
@@ -109,7 +109,7 @@ pub(crate) fn step<B: Bound>(
     works: &mut [Vec<B>],
     call: &Call,
 ) -> Answer<B>
-    ensures { Serves meaning call.now result slots.old works.old slots.new works.new }
+    ensures { Serves B.meaning call.now result slots.old works.old slots.new works.new }
 {
     match call {
         Call::Open { board, timers } => open_at(slots, *board, *timers),

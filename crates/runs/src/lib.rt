@@ -2,6 +2,8 @@
 // functions of this crate compute nothing. Each carries one theorem in its contract, so that the check
 // fails where its proof is missing: all but the worked charts for every kind of bound, from the laws alone.
 // The name of a limit is declared here, for the code and for the definitions.
+#![tactic(auto)]
+
 ghost use Rattle.runs.specs.Claims.{PartialSolutionsExtend, ClosedTablesReached, PivotsKeep, NewNodeCloses, RunsKeepChains, RunsExactly, TablesTell, LimitsTellWithin, Answered};
 ghost use Rattle.runs.specs.Worked.{WorkedCharts};
 
@@ -12,42 +14,42 @@ pub use names::Name;
 
 // Dates of some nodes that keep a closed table two by two go on to dates of all nodes.
 pub fn partial_solutions_extend<B: Bound>() -> u8
-    ensures { PartialSolutionsExtend B.Bound.meaning }
+    ensures { PartialSolutionsExtend B.meaning }
 {
     0
 }
 
 // What a place of a closed table allows, a solution reaches, and so for what both sums of a limit allow.
 pub fn closed_tables_reached<B: Bound>() -> u8
-    ensures { ClosedTablesReached B.Bound.meaning }
+    ensures { ClosedTablesReached B.meaning }
 {
     0
 }
 
 // A pivot keeps the solutions and the settled nodes; one that forbids 0 means that there is no solution.
 pub fn pivots_keep<B: Bound>() -> u8
-    ensures { PivotsKeep B.Bound.meaning }
+    ensures { PivotsKeep B.meaning }
 {
     0
 }
 
 // One new node on a closed table, and one pivot on it, give a closed table.
 pub fn new_node_closes<B: Bound>() -> u8
-    ensures { NewNodeCloses B.Bound.meaning }
+    ensures { NewNodeCloses B.meaning }
 {
     0
 }
 
 // The dates of a run keep every chain.
 pub fn runs_keep_chains<B: Bound>() -> u8
-    ensures { RunsKeepChains B.Bound.meaning }
+    ensures { RunsKeepChains B.meaning }
 {
     0
 }
 
 // A chart has a run exactly when no closed chain forbids 0.
 pub fn runs_exactly<B: Bound>() -> u8
-    ensures { RunsExactly B.Bound.meaning }
+    ensures { RunsExactly B.meaning }
 {
     0
 }
@@ -55,21 +57,21 @@ pub fn runs_exactly<B: Bound>() -> u8
 // A good table is normalised, its chart has a run, its solutions are runs, and its limits are sharp and
 // decide which pairs of readings are joined.
 pub fn tables_tell<B: Bound>() -> u8
-    ensures { TablesTell B.Bound.meaning }
+    ensures { TablesTell B.meaning }
 {
     0
 }
 
 // One chart is within another exactly when each of its limits is tighter, and else there is a first name that fails.
 pub fn limits_tell_within<B: Bound>() -> u8
-    ensures { LimitsTellWithin B.Bound.meaning }
+    ensures { LimitsTellWithin B.meaning }
 {
     0
 }
 
 // No sum of the working is refused.
 pub fn sums_answered<B: Bound>() -> u8
-    ensures { Answered B.Bound.meaning }
+    ensures { Answered B.meaning }
 {
     0
 }

@@ -16,7 +16,7 @@ pub fn row_start(u: usize, side: usize) -> usize
 // The bound at a place.
 pub fn pick<B: Bound>(table: &[B], place: usize) -> B
     requires { place < length table.now }
-    ensures { result ≡ at meaning table.now place }
+    ensures { result ≡ at B.meaning table.now place }
 {
     table[place]
 }
@@ -24,7 +24,7 @@ pub fn pick<B: Bound>(table: &[B], place: usize) -> B
 // The bound in row `u` and column `v`.
 pub fn read<B: Bound>(table: &[B], side: usize, u: usize, v: usize) -> B
     requires { (u < side) × ((v < side) × ((side ≤ 27) × (side * side ≤ length table.now))) }
-    ensures { result ≡ cell meaning side table.now u v }
+    ensures { result ≡ cell B.meaning side table.now u v }
 {
     table[row_start(u, side) + v]
 }
@@ -32,8 +32,8 @@ pub fn read<B: Bound>(table: &[B], side: usize, u: usize, v: usize) -> B
 // Puts open into the first `count` places.
 pub fn clear<B: Bound>(table: &mut [B], count: usize)
     requires { count ≤ length table.old }
-    ensures cleared { (i : ℕ) → i < count → at meaning table.new i ≡ meaning.opened }
-    ensures beyond { Beyond meaning count table.old table.new }
+    ensures cleared { (i : ℕ) → i < count → at B.meaning table.new i ≡ B.meaning.opened }
+    ensures beyond { Beyond B.meaning count table.old table.new }
 {
     let open = B::open();
     for i in 0..count {

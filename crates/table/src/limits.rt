@@ -32,7 +32,7 @@ pub fn is_name(name: Name, timers: Timers) -> bool
 
 // The sum of two bounds, or open where the kind answers none.
 pub fn sum_or_open<B: Bound>(first: B, second: B) -> B
-    ensures { result ≡ answered meaning (meaning.sum first second) }
+    ensures { result ≡ answered B.meaning (B.meaning.sum first second) }
 {
     match first.sum(second) {
         Some(sum) => sum,
@@ -45,8 +45,8 @@ pub fn sum_or_open<B: Bound>(first: B, second: B) -> B
 pub fn limit_any<B: Bound>(table: &[B], timers: Timers, name: Name) -> B
     requires room { (2 * timers.count + 2) * (2 * timers.count + 2) ≤ length table.now }
     requires parts { Parts timers.count name }
-    ensures value { result ≡ limit_at meaning timers.count table.now name }
-    ensures is { Small meaning (2 * timers.count + 2) table.now → IsLimit meaning timers.count table.now name result }
+    ensures value { result ≡ limit_at B.meaning timers.count table.now name }
+    ensures is { Small B.meaning (2 * timers.count + 2) table.now → IsLimit B.meaning timers.count table.now name result }
 {
     let n = timers.count as usize;
     let side = 2 * n + 2;
@@ -63,8 +63,8 @@ pub fn limit_any<B: Bound>(table: &[B], timers: Timers, name: Name) -> B
 fn looser_at<B: Bound>(table: &[B], other: &[B], timers: Timers, name: Name) -> bool
     requires room { ((2 * timers.count + 2) * (2 * timers.count + 2) ≤ length table.now) × ((2 * timers.count + 2) * (2 * timers.count + 2) ≤ length other.now) }
     requires parts { Parts timers.count name }
-    ensures yes { result ≡ true → Fails timers.count (tighter_at meaning timers.count table.now other.now) name.a name.b name.c name.d }
-    ensures no { result ≡ false → Passes timers.count (tighter_at meaning timers.count table.now other.now) name.a name.b name.c name.d }
+    ensures yes { result ≡ true → Fails timers.count (tighter_at B.meaning timers.count table.now other.now) name.a name.b name.c name.d }
+    ensures no { result ≡ false → Passes timers.count (tighter_at B.meaning timers.count table.now other.now) name.a name.b name.c name.d }
 {
     is_name(name, timers) && !limit_any(table, timers, name).tighter(limit_any(other, timers, name))
 }
@@ -73,7 +73,7 @@ fn looser_at<B: Bound>(table: &[B], other: &[B], timers: Timers, name: Name) -> 
 fn first_d<B: Bound>(table: &[B], other: &[B], timers: Timers, a: u8, b: u8, c: u8) -> Option<Name>
     requires room { ((2 * timers.count + 2) * (2 * timers.count + 2) ≤ length table.now) × ((2 * timers.count + 2) * (2 * timers.count + 2) ≤ length other.now) }
     requires parts { (a ≤ timers.count) × ((b ≤ timers.count) × (c ≤ timers.count)) }
-    ensures { FoundD meaning timers.count table.now other.now a b c result }
+    ensures { FoundD B.meaning timers.count table.now other.now a b c result }
 {
     for d in 0..timers.count + 1 {
         let name = Name { a, b, c, d };
@@ -88,7 +88,7 @@ fn first_d<B: Bound>(table: &[B], other: &[B], timers: Timers, a: u8, b: u8, c: 
 fn first_c<B: Bound>(table: &[B], other: &[B], timers: Timers, a: u8, b: u8) -> Option<Name>
     requires room { ((2 * timers.count + 2) * (2 * timers.count + 2) ≤ length table.now) × ((2 * timers.count + 2) * (2 * timers.count + 2) ≤ length other.now) }
     requires parts { (a ≤ timers.count) × (b ≤ timers.count) }
-    ensures { FoundC meaning timers.count table.now other.now a b result }
+    ensures { FoundC B.meaning timers.count table.now other.now a b result }
 {
     for c in 0..timers.count + 1 {
         if let Some(name) = first_d(table, other, timers, a, b, c) {
@@ -102,7 +102,7 @@ fn first_c<B: Bound>(table: &[B], other: &[B], timers: Timers, a: u8, b: u8) -> 
 fn first_b<B: Bound>(table: &[B], other: &[B], timers: Timers, a: u8) -> Option<Name>
     requires room { ((2 * timers.count + 2) * (2 * timers.count + 2) ≤ length table.now) × ((2 * timers.count + 2) * (2 * timers.count + 2) ≤ length other.now) }
     requires parts { a ≤ timers.count }
-    ensures { FoundB meaning timers.count table.now other.now a result }
+    ensures { FoundB B.meaning timers.count table.now other.now a result }
 {
     for b in 0..timers.count + 1 {
         if let Some(name) = first_c(table, other, timers, a, b) {
@@ -115,7 +115,7 @@ fn first_b<B: Bound>(table: &[B], other: &[B], timers: Timers, a: u8) -> Option<
 // The first such name.
 fn first_a<B: Bound>(table: &[B], other: &[B], timers: Timers) -> Option<Name>
     requires room { ((2 * timers.count + 2) * (2 * timers.count + 2) ≤ length table.now) × ((2 * timers.count + 2) * (2 * timers.count + 2) ≤ length other.now) }
-    ensures { FoundFirst meaning timers.count table.now other.now result }
+    ensures { FoundFirst B.meaning timers.count table.now other.now result }
 {
     for a in 0..timers.count + 1 {
         if let Some(name) = first_b(table, other, timers, a) {
@@ -128,8 +128,8 @@ fn first_a<B: Bound>(table: &[B], other: &[B], timers: Timers) -> Option<Name>
 // Whether the first `count` bounds are tighter than the other's, place by place.
 fn all_tighter<B: Bound>(table: &[B], other: &[B], count: usize) -> bool
     requires { (count ≤ length table.now) × (count ≤ length other.now) }
-    ensures yes { result ≡ true → AllTighter meaning count table.now other.now }
-    ensures no { result ≡ false → AllTighter meaning count table.now other.now → ⊥ }
+    ensures yes { result ≡ true → AllTighter B.meaning count table.now other.now }
+    ensures no { result ≡ false → AllTighter B.meaning count table.now other.now → ⊥ }
 {
     for i in 0..count {
         if !table[i].tighter(other[i]) {
@@ -143,7 +143,7 @@ fn all_tighter<B: Bound>(table: &[B], other: &[B], count: usize) -> bool
 // the other's; none where it is tighter under every name. Tables with no size above 2^40 are compared so.
 pub fn first_looser_any<B: Bound>(table: &[B], other: &[B], timers: Timers) -> Option<Name>
     requires room { ((2 * timers.count + 2) * (2 * timers.count + 2) ≤ length table.now) × ((2 * timers.count + 2) * (2 * timers.count + 2) ≤ length other.now) }
-    ensures { Small meaning (2 * timers.count + 2) table.now → Small meaning (2 * timers.count + 2) other.now → FoundFirst meaning timers.count table.now other.now result }
+    ensures { Small B.meaning (2 * timers.count + 2) table.now → Small B.meaning (2 * timers.count + 2) other.now → FoundFirst B.meaning timers.count table.now other.now result }
 {
     let side = 2 * timers.count as usize + 2;
     // sums of tighter bounds are tighter, where they are answered
@@ -158,9 +158,9 @@ pub fn first_looser_any<B: Bound>(table: &[B], other: &[B], timers: Timers) -> O
 pub fn limit<B: Bound>(table: &[B], timers: Timers, name: Name) -> B
     requires room { (2 * timers.count + 2) * (2 * timers.count + 2) ≤ length table.now }
     requires parts { Parts timers.count name }
-    requires sizes { Small meaning (2 * timers.count + 2) table.now }
-    ensures value { result ≡ limit_at meaning timers.count table.now name }
-    ensures is { IsLimit meaning timers.count table.now name result }
+    requires sizes { Small B.meaning (2 * timers.count + 2) table.now }
+    ensures value { result ≡ limit_at B.meaning timers.count table.now name }
+    ensures is { IsLimit B.meaning timers.count table.now name result }
 {
     limit_any(table, timers, name)
 }
@@ -168,8 +168,8 @@ pub fn limit<B: Bound>(table: &[B], timers: Timers, name: Name) -> B
 // As `first_looser_any`, in tables with no size above 2^40.
 pub fn first_looser<B: Bound>(table: &[B], other: &[B], timers: Timers) -> Option<Name>
     requires room { ((2 * timers.count + 2) * (2 * timers.count + 2) ≤ length table.now) × ((2 * timers.count + 2) * (2 * timers.count + 2) ≤ length other.now) }
-    requires sizes { (Small meaning (2 * timers.count + 2) table.now) × (Small meaning (2 * timers.count + 2) other.now) }
-    ensures { FoundFirst meaning timers.count table.now other.now result }
+    requires sizes { (Small B.meaning (2 * timers.count + 2) table.now) × (Small B.meaning (2 * timers.count + 2) other.now) }
+    ensures { FoundFirst B.meaning timers.count table.now other.now result }
 {
     first_looser_any(table, other, timers)
 }

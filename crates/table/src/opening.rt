@@ -19,7 +19,7 @@ fn start_node(u: usize, n: usize) -> usize
 // The bound in row `u` and column `v` of the empty chart's table.
 fn empty_cell<B: Bound>(n: usize, u: usize, v: usize, zero: B) -> B
     requires { n ≤ 8 }
-    ensures { result ≡ empty_cell meaning zero n u v }
+    ensures { result ≡ empty_cell B.meaning zero n u v }
 {
     let i = start_node(u, n);
     let j = start_node(v, n);
@@ -29,8 +29,8 @@ fn empty_cell<B: Bound>(n: usize, u: usize, v: usize, zero: B) -> B
 // Row `u` of the empty chart's table, from `start` on.
 fn empty_row<B: Bound>(table: &mut [B], start: usize, n: usize, u: usize, zero: B)
     requires { (n ≤ 8) × (start + (2 * n + 2) ≤ length table.old) }
-    ensures only { Only meaning start (2 * n + 2) table.old table.new }
-    ensures row { Holds meaning start (2 * n + 2) (empty_cell meaning zero n u) table.new }
+    ensures only { Only B.meaning start (2 * n + 2) table.old table.new }
+    ensures row { Holds B.meaning start (2 * n + 2) (empty_cell B.meaning zero n u) table.new }
 {
     for v in 0..2 * n + 2 {
         table[start + v] = empty_cell(n, u, v, zero);
@@ -40,9 +40,9 @@ fn empty_row<B: Bound>(table: &mut [B], start: usize, n: usize, u: usize, zero: 
 // The empty chart's table for these timers, at the front of the slice.
 pub fn empty<B: Bound>(table: &mut [B], timers: Timers)
     requires { (2 * timers.count + 2) * (2 * timers.count + 2) ≤ length table.old }
-    ensures cells { (zero : B) → meaning.written false (pos 0) ≡ Some zero → Rows meaning (2 * timers.count + 2) (2 * timers.count + 2) (empty_cell meaning zero timers.count) table.new }
-    ensures its { ChartTable meaning timers.count [] table.new }
-    ensures beyond { Beyond meaning ((2 * timers.count + 2) * (2 * timers.count + 2)) table.old table.new }
+    ensures cells { (zero : B) → B.meaning.written false (pos 0) ≡ Some zero → Rows B.meaning (2 * timers.count + 2) (2 * timers.count + 2) (empty_cell B.meaning zero timers.count) table.new }
+    ensures its { ChartTable B.meaning timers.count [] table.new }
+    ensures beyond { Beyond B.meaning ((2 * timers.count + 2) * (2 * timers.count + 2)) table.old table.new }
 {
     let n = timers.count as usize;
     let side = 2 * n + 2;

@@ -7,7 +7,7 @@ use bound::{Bound, keep_tighter};
 
 // The tighter of `held` and the sum of the others; `held` where the kind answers no sum.
 pub fn relax<B: Bound>(held: B, first: B, second: B) -> B
-    ensures { result ≡ relaxed meaning held first second }
+    ensures { result ≡ relaxed B.meaning held first second }
 {
     match first.sum(second) {
         Some(sum) => keep_tighter(held, sum),
@@ -19,8 +19,8 @@ pub fn relax<B: Bound>(held: B, first: B, second: B) -> B
 fn sweep<B: Bound>(work: &mut [B], base: usize, other: usize, count: usize, bound: B)
     requires room { (base + count ≤ length work.old) × (other + count ≤ length work.old) }
     requires apart { other < base → other + count ≤ base }
-    ensures only { Only meaning base count work.old work.new }
-    ensures row { Holds meaning base count (λ v. relaxed meaning (at meaning work.old (base + v)) bound (at meaning work.old (other + v))) work.new }
+    ensures only { Only B.meaning base count work.old work.new }
+    ensures row { Holds B.meaning base count (λ v. relaxed B.meaning (at B.meaning work.old (base + v)) bound (at B.meaning work.old (other + v))) work.new }
 {
     for v in 0..count {
         work[base + v] = relax(work[base + v], bound, work[other + v]);
@@ -30,8 +30,8 @@ fn sweep<B: Bound>(work: &mut [B], base: usize, other: usize, count: usize, boun
 // Row `u` of a pivot on `p`.
 fn pivot_row<B: Bound>(work: &mut [B], side: usize, p: usize, u: usize)
     requires { (u < side) × ((p < side) × ((side ≤ 27) × (side * side ≤ length work.old))) }
-    ensures only { Only meaning (u * side) side work.old work.new }
-    ensures row { Holds meaning (u * side) side (pivoted meaning side p work.old u) work.new }
+    ensures only { Only B.meaning (u * side) side work.old work.new }
+    ensures row { Holds B.meaning (u * side) side (pivoted B.meaning side p work.old u) work.new }
 {
     let base = row_start(u, side);
     let other = row_start(p, side);
@@ -42,8 +42,8 @@ fn pivot_row<B: Bound>(work: &mut [B], side: usize, p: usize, u: usize)
 // A pivot on `p` of the table of that side at the front of `work`; a place stays where the kind answers no sum.
 pub fn pivot_any<B: Bound>(work: &mut [B], side: usize, p: usize)
     requires { (p < side) × ((side ≤ 27) × (side * side ≤ length work.old)) }
-    ensures cells { Rows meaning side side (pivoted meaning side p work.old) work.new }
-    ensures beyond { Beyond meaning (side * side) work.old work.new }
+    ensures cells { Rows B.meaning side side (pivoted B.meaning side p work.old) work.new }
+    ensures beyond { Beyond B.meaning (side * side) work.old work.new }
 {
     for u in 0..side {
         if u != p {
@@ -57,9 +57,9 @@ pub fn pivot_any<B: Bound>(work: &mut [B], side: usize, p: usize)
 // As `pivot_any`, where every sum is within the reach.
 pub fn pivot<B: Bound>(work: &mut [B], side: usize, p: usize)
     requires within { (p < side) × ((side ≤ 27) × (side * side ≤ length work.old)) }
-    requires sizes { PivotFits meaning side p work.old }
-    ensures cells { Rows meaning side side (pivoted meaning side p work.old) work.new }
-    ensures beyond { Beyond meaning (side * side) work.old work.new }
+    requires sizes { PivotFits B.meaning side p work.old }
+    ensures cells { Rows B.meaning side side (pivoted B.meaning side p work.old) work.new }
+    ensures beyond { Beyond B.meaning (side * side) work.old work.new }
 {
     pivot_any(work, side, p)
 }

@@ -50,7 +50,7 @@ loop-at-preserved c =
     let used = c.in_ok-used.used in
     let inside : at < length part = omega arith in
     let q = at_back_ok (k + 1) at c.used_by.result used (sym c.in_ok-used.ensures) in
-    let s = sized h.timers part at k inside c.loop-at.invariant.0 c.used_by.result c.used_by.ensures (λ i. (c.type-inv.part i).fits) used q in
+    let s = sized h.timers part at k inside c.loop-at.invariant.0 c.used_by.result c.used_by.ensures (λ i. (c.type_inv.part i).fits) used q in
     let next = here h.timers part at k inside c.loop-at.invariant.0 c.used_by.result c.used_by.ensures in
     let e : length part - k - 1 ≡ length part - (k + 1) = omega arith in (
       omega arith,

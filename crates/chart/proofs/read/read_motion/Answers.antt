@@ -9,5 +9,5 @@ returns c =
     let v = c.motion_of.ensures in
     record {
       value = v;
-      laid = λ m used. (λ e. laid_from_read n bs (λ i. (c.type-inv.bytes i).fits) m used (sym v ∙ e), λ l. v ∙ read_from_laid n bs m used l);
+      laid = λ m used. (λ e. laid_from_read n bs (λ i. (c.type_inv.bytes i).fits) m used (sym v ∙ e), λ l. v ∙ read_from_laid n bs m used l);
     }
