@@ -82,7 +82,7 @@ pub(crate) fn place(book: &[u8], number: u16) -> Result<Extent, BookFault>
 // Chart `number`, counted from 1: the part of the book that its pair names.
 pub fn chart(book: &[u8], number: u16) -> Result<&[u8], BookFault>
     ensures bytes { result_map_both (λ x. x.now) (λ e. e) result ≡ handed book.now number }
-    ensures place { IfOk result (λ p. p.ptr ≡ (book.entry.ref_ptr.0, book.entry.ref_ptr.1 + offset book.now (number - 1))) }
+    ensures place { IfOk result (λ p. p.ref_ptr ≡ (book.entry.ref_ptr.0, book.entry.ref_ptr.1 + offset book.now (number - 1))) }
 {
     let place = place(book, number)?;
     let start = place.offset;
