@@ -1,5 +1,5 @@
 -- A board whose chart may become a longer one, by what the working finds. Assumes nothing.
-use Rattle.std.proofs.Common.{◌≡◌, ℕ, ◌+◌, ◌*◌, ◌^◌, ◌<◌, ◌≤◌, cond, ◌⊎◌, List, [], ◌∷◌, ◌++◌, length, is_ok, Ok, Err, Result, sym, refl, ap, ◌∙◌, subst, subst₂, inl, inr, arith, length-append}
+use Rattle.std.proofs.Common.{◌≡◌, ℕ, ◌+◌, ◌*◌, ◌^◌, ◌<◌, ◌≤◌, cond, List, [], ◌∷◌, ◌++◌, length, is_ok, Ok, Err, Result, sym, refl, ap, ◌∙◌, subst, subst₂, inl, inr, arith, length-append}
 use Rattle.bound.specs.Meaning.{Meaning, Laws}
 use Rattle.chart.specs.declared.types.Timers.{Timers}
 use Rattle.chart.specs.declared.types.MotionFault.{MotionFault}

@@ -1,5 +1,5 @@
 -- An open: which numbers of timers there are, and the board afterwards. Assumes nothing.
-use Rattle.std.proofs.Common.{◌≡◌, ℕ, ◌+◌, ◌*◌, ◌<◌, ◌≤◌, List, [], length, Some, None, Ok, Err, Option, sym, refl, ◌∙◌, subst, inl, inr, arith}
+use Rattle.std.proofs.Common.{◌≡◌, ℕ, ◌<◌, ◌≤◌, List, [], length, Some, None, Ok, Err, Option, sym, refl, subst, inl, inr, arith}
 use Rattle.bound.specs.Meaning.{Meaning}
 use Rattle.chart.specs.declared.types.Timers.{Timers}
 use Rattle.chart.specs.Ranges.{timers_of}
@@ -7,11 +7,10 @@ use Rattle.chart.proofs.Ranges.{timers_some, timers_back}
 use Rattle.faults.specs.declared.types.BoardFault.TheVariants as fault
 use Rattle.table.specs.Cells.{Beyond}
 use Rattle.table.specs.Finds.{ChartTable}
-use Rattle.board.specs.declared.header.Header.{Header}
 use Rattle.board.specs.declared.header.State.TheVariants.{Runs}
-use Rattle.board.specs.Standing.{Standing, charted, with_timers, opened}
+use Rattle.board.specs.Standing.{Standing, with_timers, opened}
 use Rattle.board.specs.Calls.{OpenIs, places}
-use Rattle.board.specs.Left.{TableOf, TableLeft}
+use Rattle.board.specs.Left.{TableOf}
 use Rattle.board.specs.Holding.{Holds, StandsFor}
 
 -- other numbers are refused

@@ -1,8 +1,7 @@
 -- What each call on a board answers, by the charts of the boards. Assumes nothing.
-use Rattle.std.specs.Prelude.{◌≡◌, ℕ, ◌+◌, ◌*◌, ◌^◌, ◌<◌, ◌≤◌, Bool, true, ◌⊎◌, ◌↔◌, List, [], ◌∷◌, ◌++◌, length, Ok, Err, Result}
+use Rattle.std.specs.Prelude.{◌≡◌, ℕ, ◌+◌, ◌*◌, ◌^◌, ◌≤◌, Bool, true, ◌⊎◌, ◌↔◌, List, [], ◌∷◌, ◌++◌, length, Ok, Err, Result}
 use Rattle.bound.specs.Differences.{Differences}
 use Rattle.bound.specs.Meaning.{Meaning}
-use Rattle.chart.specs.declared.types.Timers.{Timers}
 use Rattle.chart.specs.declared.types.MotionFault.{MotionFault}
 use Rattle.chart.specs.Charts.{Motion, Chart}
 use Rattle.chart.specs.Reading.{motion_of}

@@ -1,7 +1,6 @@
 -- What calls leave in the tables that they are lent. Assumes nothing.
 use Rattle.std.specs.Prelude.{◌≡◌, ℕ, ◌<◌, ◌⊎◌, List, Ok, Err, Result}
 use Rattle.bound.specs.Meaning.{Meaning}
-use Rattle.chart.specs.Charts.{Chart}
 use Rattle.faults.specs.declared.types.BoardFault.{BoardFault}
 use Rattle.faults.specs.declared.types.BoardFault.TheVariants as fault
 use Rattle.runs.specs.Runs.{HasRun}

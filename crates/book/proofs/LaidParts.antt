@@ -1,12 +1,12 @@
 -- A chart is read exactly where it is laid out. Assumes nothing.
-use Rattle.std.proofs.Common.{◌≡◌, ℕ, zero, suc, ◌+◌, ◌-◌, ◌<◌, ◌≤◌, Bool, true, false, cond, eqb, ltb, ◌⊎◌, List, [], ◌∷◌, ◌++◌, length, get_or, take, drop, Some, None, Ok, Err, Option, Result, sym, refl, ap, ◌∙◌, subst, inl, inr, ⊎_elim, add-one, arith, lit<, length-drop, length-take, drop-cons, get_or-take}
+use Rattle.std.proofs.Common.{◌≡◌, ℕ, zero, suc, ◌+◌, ◌-◌, ◌<◌, ◌≤◌, Bool, true, false, cond, eqb, List, [], ◌∷◌, ◌++◌, length, get_or, take, drop, Some, None, Ok, Err, Option, Result, sym, refl, ap, ◌∙◌, subst, ⊎_elim, arith, lit<, length-drop, length-take, drop-cons, get_or-take}
 use lib.Seq.{drop-append_seam}
 use Rattle.std.proofs.lemmas.List.{drop-drop, drop_all, get_or_past}
 use Rattle.std.proofs.lemmas.Bool.{cond-false, le-ltb, lt-leb, eqb-true, cases_lt}
 use Rattle.std.specs.Result.{result_map_both}
 use Rattle.chart.specs.declared.types.Timers.{Timers}
 use Rattle.chart.specs.declared.types.MotionFault.{MotionFault}
-use Rattle.chart.specs.Charts.{Motion, Chart, MotionOf, ChartOf}
+use Rattle.chart.specs.Charts.{Motion, Chart, ChartOf}
 use Rattle.chart.specs.Laid.{motion_bytes, chart_bytes, Laid}
 use Rattle.chart.specs.Ranges.{timers_of}
 use Rattle.chart.specs.Reading.{motion_of}
@@ -14,13 +14,13 @@ use Rattle.chart.proofs.Ranges.{timers_some, timers_back}
 use Rattle.chart.proofs.Layouts.{laid_from_read, read_from_laid, laid_sized, mapped_back}
 use Rattle.faults.specs.declared.types.AtMotion.{AtMotion}
 use Rattle.faults.specs.declared.types.ChartFault.{ChartFault}
-use Rattle.faults.specs.declared.types.ChartFault.TheVariants.{Board, Short}
+use Rattle.faults.specs.declared.types.ChartFault.TheVariants.{Board}
 use Rattle.faults.specs.declared.types.BookFault.{BookFault}
 use Rattle.faults.specs.declared.types.BookFault.TheVariants as book
 use Rattle.book.specs.declared.head.Kind.{Kind}
 use Rattle.book.specs.declared.head.Kind.TheVariants.{Tick, Edge}
 use Rattle.book.specs.declared.head.Head.{Head}
-use Rattle.book.specs.Layout.{place_of, handed}
+use Rattle.book.specs.Layout.{place_of}
 use Rattle.book.specs.Parts.{kind_of, head_by, head_of, onward, motions_from, chart_by, chart_of, part_count, count_by, count_of, kind_byte, PartOf, Counts, at_chart}
 use Rattle.book.proofs.Motions.{motions_end, motions_step, small_after, head_long}
 

@@ -1,5 +1,5 @@
 -- A motion is read exactly where it is laid out. Assumes nothing.
-use Rattle.std.proofs.Common.{◌≡◌, ℕ, zero, suc, ◌+◌, ◌-◌, ◌*◌, ◌/◌, ◌%◌, ◌^◌, ◌<◌, ◌≤◌, Bool, true, false, cond, eqb, ltb, leb, ◌⊎◌, List, [], ◌∷◌, ◌++◌, length, get_or, drop, Some, None, Ok, Err, Option, Result, sym, refl, ap, ◌∙◌, subst, inl, inr, ⊎_elim, append_assoc, le_trans, add-one, arith, length-append, length-drop, get_or-drop, drop-cons}
+use Rattle.std.proofs.Common.{◌≡◌, ℕ, zero, suc, ◌+◌, ◌*◌, ◌/◌, ◌%◌, ◌^◌, ◌<◌, ◌≤◌, Bool, true, false, cond, eqb, ltb, leb, ◌⊎◌, List, [], ◌∷◌, ◌++◌, length, get_or, drop, Some, None, Ok, Err, Option, Result, sym, refl, ap, ◌∙◌, subst, inl, inr, ⊎_elim, append_assoc, le_trans, add-one, arith, length-append, get_or-drop, drop-cons}
 use Rattle.std.proofs.lemmas.Bool.{eqb-true, ltb-false, leb-false}
 use Rattle.std.proofs.lemmas.List.{drop-drop}
 use Rattle.std.specs.Result.{result_map_both}
@@ -11,7 +11,7 @@ use Rattle.chart.specs.declared.types.MotionFault.{MotionFault}
 use Rattle.chart.specs.declared.types.MotionFault.TheVariants as fault
 use Rattle.chart.specs.Bytes.{four, four_bytes}
 use Rattle.chart.specs.Lists.{All}
-use Rattle.chart.specs.Charts.{Motion, WindowOf, MotionOf}
+use Rattle.chart.specs.Charts.{Motion, WindowOf}
 use Rattle.chart.specs.Reading.{sign_of, signed, window_by, window_at, before, windows_from, motion_of}
 use Rattle.chart.specs.Laid.{sign_byte, window_bytes, windows_bytes, motion_bytes, Laid}
 use Rattle.chart.proofs.Ranges.{past_le, past_within}

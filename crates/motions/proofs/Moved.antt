@@ -16,7 +16,7 @@ use Rattle.runs.specs.Motions.{motion_name}
 use Rattle.runs.proofs.Bounds.{sum_there}
 use Rattle.runs.proofs.BoundPivot.{bound_pivot, column_stays, row_stays}
 use Rattle.runs.proofs.NodeNames.{motion_names}
-use Rattle.runs.proofs.MotionChains.{longer, motion_never}
+use Rattle.runs.proofs.MotionChains.{motion_never}
 use Rattle.runs.proofs.GoodMotion.{good_motion}
 use Rattle.runs.proofs.GoodRuns.{good_same, has_run, tightest}
 use Rattle.table.specs.Cells.{at, cell, Rows, Small, with_sum, relaxed}

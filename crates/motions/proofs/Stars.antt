@@ -1,7 +1,7 @@
 -- The tightest of several sums, one after the other. Assumes nothing.
-use Rattle.std.proofs.Common.{◌≡◌, ℕ, zero, suc, ◌+◌, ◌*◌, ◌<◌, ◌≤◌, List, sym, refl, ap, ◌∙◌, subst, add-one, arith}
+use Rattle.std.proofs.Common.{◌≡◌, ℕ, zero, suc, ◌+◌, ◌*◌, ◌<◌, List, sym, refl, ap, ◌∙◌, add-one, arith}
 use Rattle.bound.specs.Meaning.{Meaning}
-use Rattle.table.specs.Cells.{at, cell, relaxed}
+use Rattle.table.specs.Cells.{at, relaxed}
 use Rattle.motions.specs.Star.{best_of, to_new, from_new}
 
 module _ {B : Type 0} (m : Meaning B) (f g : ℕ → B) where

@@ -1,6 +1,6 @@
 -- One call more, and boards made anew. Assumes nothing.
-use Rattle.std.proofs.Common.{◌≡◌, ℕ, ◌+◌, ◌<◌, ◌≤◌, List, [], ◌∷◌, ◌++◌, map, length, get_or, take, set, vec_items, Vec, sym, refl, ap, ◌∙◌, subst, subst₂, arith, length-set, take_all}
-use Rattle.std.proofs.lemmas.List.{take_more, length-map, get_or-map, map-set, set-get_or}
+use Rattle.std.proofs.Common.{◌≡◌, ℕ, ◌+◌, ◌<◌, ◌≤◌, List, [], ◌∷◌, ◌++◌, map, length, get_or, take, vec_items, Vec, sym, refl, ap, ◌∙◌, subst, subst₂, arith, take_all}
+use Rattle.std.proofs.lemmas.List.{take_more, length-map, get_or-map}
 use Rattle.std.specs.declared.alloc.Global.{Global}
 use Rattle.bound.specs.Meaning.{Meaning}
 use Rattle.board.specs.declared.header.State.TheVariants.{Blank}

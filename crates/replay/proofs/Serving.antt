@@ -1,5 +1,5 @@
 -- One call on one of some boards: the others stay, and the charts follow. Assumes nothing.
-use Rattle.std.proofs.Common.{◌≡◌, ℕ, ◌<◌, ◌≤◌, Bool, true, false, cond, ◌≢◌, List, [], map, length, get_or, set, is_ok, vec_items, Result, Vec, sym, refl, ap, ◌∙◌, subst, subst₂, inl, inr, arith, length-set, get_or-set_other, get_or-set_same}
+use Rattle.std.proofs.Common.{◌≡◌, ℕ, ◌<◌, Bool, true, false, cond, ◌≢◌, List, [], map, length, get_or, set, is_ok, vec_items, Result, Vec, sym, refl, ap, ◌∙◌, subst, subst₂, inl, inr, arith, length-set, get_or-set_other, get_or-set_same}
 use native.Mathlib.Decide.{ℕ_discrete}
 use Rattle.std.proofs.lemmas.List.{length-map, map-set, get_or-map, set-get_or, set-set, set_comm}
 use Rattle.std.specs.declared.alloc.Global.{Global}

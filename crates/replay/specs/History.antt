@@ -1,9 +1,8 @@
 -- The promise about any sequence of calls on any boards of one kind: the charts follow from the calls' arguments and from which calls were
 -- accepted, and every call answers what the charts at its time say and leaves in the tables what they say. Assumes nothing.
-use Rattle.std.specs.Prelude.{◌≡◌, ℕ, ◌<◌, Bool, true, false, cond, ◌⊎◌, List, [], ◌∷◌, length, is_ok, vec_items, Result, ◌≢◌, slice_index_or, slice_set}
+use Rattle.std.specs.Prelude.{◌≡◌, ℕ, ◌<◌, Bool, false, cond, ◌⊎◌, List, [], ◌∷◌, length, is_ok, vec_items, Result, ◌≢◌, slice_index_or, slice_set}
 use Rattle.bound.specs.Meaning.{Meaning}
 use Rattle.faults.specs.declared.types.BoardFault.{BoardFault}
-use Rattle.runs.specs.Limits.{Name}
 use Rattle.board.specs.declared.within.Within as compared
 use Rattle.board.specs.Standing.{Standing, blank, opened, moved, joined}
 use Rattle.board.specs.Calls.{OpenIs, MotionIs, JoinIs, RunsIs, CountIs, WithinIs, LimitIs, SpanIs}

@@ -1,5 +1,5 @@
 -- The elapsed time is eliminated: two readings keep every limit of a closed table exactly when some time between them gives dates that keep the table.
-use Rattle.std.proofs.Common.{◌≡◌, ℕ, ◌+◌, ◌-◌, ◌<◌, ◌⊎◌, [], ◌∷◌, refl, subst, subst₂, inl, inr, arith}
+use Rattle.std.proofs.Common.{◌≡◌, ℕ, ◌+◌, ◌<◌, ◌⊎◌, [], ◌∷◌, refl, subst, subst₂, inl, inr, arith}
 use native.Mathlib.Decide.{ℕ_discrete}
 use Rattle.bound.specs.Differences.{Differences, Ordered, zero_of, minus}
 use Rattle.runs.specs.Tables.{Table, Sum, Closed, Satisfies}

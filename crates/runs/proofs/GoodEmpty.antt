@@ -1,5 +1,5 @@
 -- The empty chart's table is good. Assumes nothing.
-use Rattle.std.proofs.Common.{◌≡◌, ℕ, zero, suc, ◌+◌, ◌-◌, ◌<◌, ◌≤◌, cond, ◌⊎◌, [], ◌∷◌, sym, refl, ap, ◌∙◌, subst, subst₂, inl, inr, arith, le-leb}
+use Rattle.std.proofs.Common.{◌≡◌, ℕ, zero, suc, ◌+◌, ◌-◌, ◌<◌, cond, ◌⊎◌, [], ◌∷◌, sym, refl, ap, ◌∙◌, subst, subst₂, inl, inr, arith, le-leb}
 use native.Mathlib.Decide.{ℕ_discrete}
 use borrow.Author.Tests.{lt-leb}
 use Rattle.bound.specs.Differences.{Differences, Same, Ordered, zero_of, minus}

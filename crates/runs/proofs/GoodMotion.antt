@@ -1,5 +1,5 @@
 -- A chart with one more motion: from a good table, the table with the new now, closed by its pivot and renamed, is good. Assumes nothing.
-use Rattle.std.proofs.Common.{◌≡◌, ℕ, zero, suc, ◌+◌, ◌-◌, ◌<◌, ◌≤◌, Bool, true, false, cond, leb, ◌⊎◌, ◌↔◌, length, sym, refl, ap, ◌∙◌, subst, subst₂, inl, inr, arith, le-leb}
+use Rattle.std.proofs.Common.{◌≡◌, ℕ, zero, suc, ◌+◌, ◌<◌, ◌≤◌, Bool, true, false, cond, leb, ◌⊎◌, ◌↔◌, length, sym, refl, ap, ◌∙◌, subst, subst₂, inl, inr, arith, le-leb}
 use Rattle.bound.specs.Differences.{Differences, Same, Ordered, zero_of}
 use Rattle.runs.specs.Lists.{At}
 use Rattle.chart.specs.Charts.{Motion, Chart, MotionOf, restarts_timer}

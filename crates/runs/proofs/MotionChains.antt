@@ -1,5 +1,5 @@
 -- The limits that one more motion writes: chains attain the bounds to and from the new now, and where a test fails the longer chart never runs. Assumes nothing.
-use Rattle.std.proofs.Common.{◌≡◌, ℕ, zero, suc, ◌+◌, ◌-◌, ◌<◌, ◌≤◌, ◌⊎◌, [], ◌∷◌, ◌++◌, length, pos, neg_ℤ, sym, refl, subst, inl, inr, arith}
+use Rattle.std.proofs.Common.{◌≡◌, ℕ, zero, suc, ◌+◌, ◌<◌, ◌≤◌, ◌⊎◌, [], ◌∷◌, ◌++◌, length, pos, neg_ℤ, sym, refl, subst, inl, inr, arith}
 use Rattle.bound.specs.Differences.{Differences, Ordered, zero_of}
 use Rattle.bound.specs.Meaning.{Stands}
 use Rattle.runs.specs.Lists.{At}

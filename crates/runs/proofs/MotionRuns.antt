@@ -1,5 +1,5 @@
 -- Dates that keep a table and the bounds of one more motion are those of a run of the longer chart. Assumes nothing.
-use Rattle.std.proofs.Common.{◌≡◌, ℕ, zero, suc, ◌+◌, ◌-◌, ◌<◌, ◌≤◌, Bool, true, false, cond, [], ◌∷◌, pos, neg_ℤ, sym, refl, subst, arith}
+use Rattle.std.proofs.Common.{◌≡◌, ℕ, zero, suc, ◌+◌, ◌<◌, ◌≤◌, Bool, true, false, cond, [], ◌∷◌, pos, neg_ℤ, sym, refl, subst, arith}
 use Rattle.bound.specs.Differences.{Differences, Same, Ordered, zero_of, minus}
 use Rattle.runs.specs.Lists.{At}
 use Rattle.chart.specs.declared.types.Window.{Window}

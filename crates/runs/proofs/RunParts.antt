@@ -1,5 +1,5 @@
 -- Runs of equal readings, and one run after another. Assumes nothing.
-use Rattle.std.proofs.Common.{ℕ, ◌≤◌, List, [], ◌∷◌, ◌++◌, pos, refl}
+use Rattle.std.proofs.Common.{ℕ, List, [], ◌∷◌, ◌++◌, pos, refl}
 use Rattle.bound.specs.Differences.{Differences, Same, Ordered}
 use Rattle.chart.specs.Lists.{All}
 use Rattle.chart.specs.declared.types.Sign.{Sign}

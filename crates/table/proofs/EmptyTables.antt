@@ -1,5 +1,5 @@
 -- The empty chart's table. Assumes nothing.
-use Rattle.std.proofs.Common.{◌≡◌, ℕ, ◌+◌, ◌*◌, false, eqb, ◌⊎◌, List, [], pos, Some, ◌∙◌, inl, inr, ⊎_elim, arith}
+use Rattle.std.proofs.Common.{◌≡◌, ℕ, ◌+◌, ◌*◌, false, eqb, List, [], pos, Some, ◌∙◌, inl, inr, ⊎_elim, arith}
 use Rattle.std.proofs.lemmas.Bool.{eq-eqb, ne_eqb, or_left, or_right, or_from, cond-true, cond-false}
 use Rattle.bound.specs.Meaning.{Meaning, Laws}
 use Rattle.runs.specs.Empty.{base, EmptyTo}

@@ -1,5 +1,5 @@
 -- The rows of a pivot, one after the other, the pivot's own last. Assumes nothing.
-use Rattle.std.proofs.Common.{◌≡◌, ℕ, ◌+◌, ◌*◌, ◌<◌, ◌≤◌, ◌⊎◌, List, sym, refl, ap, ◌∙◌, subst, ⊎_elim, eq-or-lt_of_le, arith}
+use Rattle.std.proofs.Common.{◌≡◌, ℕ, ◌+◌, ◌*◌, ◌<◌, ◌≤◌, List, sym, refl, ap, ◌∙◌, subst, ⊎_elim, eq-or-lt_of_le, arith}
 use native.Mathlib.Decide.{ℕ_discrete}
 use Rattle.bound.specs.Meaning.{Meaning}
 use Rattle.table.specs.Cells.{cell, Beyond, Only, Holds, Rows, relaxed, pivoted}

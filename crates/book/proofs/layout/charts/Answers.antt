@@ -1,6 +1,6 @@
-use Rattle.std.proofs.Common.{◌≡◌, ℕ, true, ◌↔◌, List, is_ok, Some, None, Ok, Err, Option, Result, sym, refl, ap, ◌∙◌, arith}
+use Rattle.std.proofs.Common.{◌≡◌, ℕ, true, is_ok, Some, None, Ok, Option, sym, refl, ap, ◌∙◌, arith}
 use Rattle.faults.specs.declared.types.BookFault.{BookFault}
-use Rattle.book.specs.Layout.{charts, Sound, layout_fault, unless, charts_of}
+use Rattle.book.specs.Layout.{charts, layout_fault, unless}
 use Rattle.book.proofs.Pairs.{sound_from_none, none_from_sound}
 use Rattle.book.proofs.layout.charts.Goals as goal
 

@@ -1,7 +1,7 @@
-use Rattle.std.proofs.Common.{◌≡◌, ℕ, ◌+◌, ◌-◌, ◌*◌, ◌<◌, ◌≤◌, List, length, Some, None, Ok, Option, sym, refl, ap, ◌∙◌, arith}
+use Rattle.std.proofs.Common.{◌≡◌, ℕ, ◌+◌, ◌-◌, ◌*◌, ◌<◌, ◌≤◌, List, length, Some, None, Ok, Option, sym, ap, ◌∙◌, arith}
 use Rattle.faults.specs.declared.types.BookFault.{BookFault}
 use Rattle.faults.specs.declared.types.BookFault.TheVariants.{Early, Late}
-use Rattle.book.specs.Layout.{charts, offset, size, least, pairs_fault, unless, charts_of}
+use Rattle.book.specs.Layout.{charts, pairs_fault, unless, charts_of}
 use Rattle.book.proofs.Pairs.{least_next, pair_early, pair_late, pair_next, no_pair, by_pairs}
 use Rattle.book.proofs.layout.checked.Goals as goal
 

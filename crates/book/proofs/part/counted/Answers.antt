@@ -1,7 +1,6 @@
-use Rattle.std.proofs.Common.{◌≡◌, ℕ, Result, sym, ap, ◌∙◌}
+use Rattle.std.proofs.Common.{ℕ, ap, ◌∙◌}
 use Rattle.std.specs.Result.{result_map_both}
 use Rattle.std.proofs.lemmas.Result.{err_from_is_err_and}
-use Rattle.faults.specs.declared.types.AtChart.{AtChart}
 use Rattle.faults.specs.declared.types.BookFault.TheVariants.{Chart}
 use Rattle.book.proofs.LaidParts.{in_book, by_part}
 use Rattle.book.proofs.part.counted.Goals as goal

@@ -1,4 +1,4 @@
-use Rattle.std.proofs.Common.{◌≡◌, ◌+◌, ◌<◌, get_or, Ok, sym, refl, ap, ◌∙◌, ⊎_elim, arith}
+use Rattle.std.proofs.Common.{◌+◌, ◌<◌, get_or, Ok, sym, refl, ap, ◌∙◌, ⊎_elim, arith}
 use Rattle.chart.specs.Bytes.{four}
 use Rattle.chart.proofs.Parts.{timer_none, timer_above, sign_none, number_above, window_made, same_window}
 use Rattle.chart.proofs.read.window_at.Goals as goal

@@ -1,4 +1,4 @@
-use Rattle.std.proofs.Common.{◌≡◌, ℕ, ◌+◌, ◌-◌, Bool, true, false, cond, List, [], ◌++◌, string_bytes, codes, decimal, sym, ap, ◌∙◌, append-nil}
+use Rattle.std.proofs.Common.{◌≡◌, ℕ, ◌+◌, ◌-◌, Bool, true, cond, List, [], ◌++◌, string_bytes, codes, decimal, sym, ap, ◌∙◌, append-nil}
 use Rattle.chart.specs.Charts.{held}
 use Rattle.describe.specs.Words.{separator, restarts_from}
 use Rattle.describe.proofs.Told.{restarts_more, restarts_skip, restarts_end}

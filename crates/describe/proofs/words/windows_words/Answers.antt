@@ -1,4 +1,4 @@
-use Rattle.std.proofs.Common.{◌≡◌, ℕ, ◌+◌, List, ◌++◌, drop, string_bytes, codes, sym, ap, ◌∙◌}
+use Rattle.std.proofs.Common.{◌≡◌, ℕ, ◌+◌, List, ◌++◌, drop, string_bytes, codes, ap, ◌∙◌}
 use Rattle.describe.specs.Words.{window_words, windows_words}
 use Rattle.describe.proofs.Told.{windows_more, windows_all}
 use Rattle.describe.proofs.words.windows_words.Goals as goal

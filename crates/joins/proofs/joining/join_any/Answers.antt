@@ -1,4 +1,4 @@
-use Rattle.std.proofs.Common.{◌++◌, refl, ◌∙◌, arith}
+use Rattle.std.proofs.Common.{◌++◌, refl, ◌∙◌}
 use Rattle.table.specs.Cells.{at}
 use Rattle.table.proofs.ChartTables.{chart_table}
 use Rattle.joins.proofs.JoinTables.{ends_small, ends_first, joined_good, joined_large, outer_small}

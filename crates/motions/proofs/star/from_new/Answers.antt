@@ -1,6 +1,5 @@
-use Rattle.std.proofs.Common.{◌+◌, ◌≤◌, arith}
+use Rattle.std.proofs.Common.{◌+◌, arith}
 use Rattle.std.proofs.lemmas.List.{get_or_read}
-use Rattle.table.specs.Cells.{at}
 use Rattle.motions.proofs.Stars.{best_none, best_more, best_to}
 use Rattle.motions.proofs.star.from_new.Goals as goal
 

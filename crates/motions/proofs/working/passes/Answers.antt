@@ -1,4 +1,4 @@
-use Rattle.std.proofs.Common.{true, false, arith, below_more}
+use Rattle.std.proofs.Common.{arith, below_more}
 use Rattle.std.proofs.lemmas.Bool.{true≢false, false≢true}
 use Rattle.motions.specs.Star.{TripAllows}
 use Rattle.motions.proofs.Trips.{trip_sum, trip_yes, trip_no}

@@ -1,4 +1,4 @@
-use Rattle.std.proofs.Common.{List, vec_items, subst, arith}
+use Rattle.std.proofs.Common.{List, vec_items, subst}
 use Rattle.board.specs.Standing.{Standing}
 use Rattle.replay.specs.History.{Snapshot, Lawful}
 use Rattle.replay.specs.Slots.{snapshot, all_blank, AllOwn}

@@ -1,4 +1,4 @@
-use Rattle.std.proofs.Common.{◌+◌, List, sym, refl, ◌∙◌, subst, arith}
+use Rattle.std.proofs.Common.{◌+◌, List, sym, refl, ◌∙◌, subst}
 use Rattle.table.proofs.Strides.{row_beyond}
 use Rattle.table.proofs.Turns.{Turned, turned_none, turned_over, turned_more, all_rows}
 use Rattle.table.proofs.pivots.pivot_any.Goals as goal

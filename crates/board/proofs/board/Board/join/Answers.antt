@@ -1,4 +1,4 @@
-use Rattle.std.proofs.Common.{ℕ, ◌+◌, ◌<◌, ◌≤◌, subst, arith, rules}
+use Rattle.std.proofs.Common.{ℕ, ◌+◌, ◌<◌, subst, arith, rules}
 use Rattle.board.specs.Left.{Cleared}
 use Rattle.board.proofs.Worked.{cleared}
 use Rattle.board.proofs.Growing.{join_long, join_settled}

@@ -2,7 +2,7 @@ use Rattle.std.proofs.Common.{Ok, Err}
 use Rattle.faults.specs.declared.types.BoardFault.TheVariants as fault
 use Rattle.board.specs.Calls.{LimitIs}
 use Rattle.board.proofs.Standings.{only_runs, when_opened, has_table, has_chain}
-use Rattle.board.proofs.Telling.{limit_told, limit_refused, name_refused}
+use Rattle.board.proofs.Telling.{limit_told, limit_refused}
 use Rattle.board.proofs.board.Board.limit.Goals as goal
 
 pub returns-in-Never : goal.returns-in-Never

@@ -1,5 +1,4 @@
-use Rattle.std.proofs.Common.{◌≡◌, ℕ, ◌-◌, ◌*◌, ◌/◌, ◌%◌, ◌^◌, ◌<◌, ◌≤◌, Bool, true, false, ◌&&◌, eqb, leb, sym, refl, ap, ◌∙◌, ⊎_elim, arith, pow_mono}
-use lib.Bits.{bit_and}
+use Rattle.std.proofs.Common.{◌≡◌, ℕ, ◌-◌, ◌*◌, ◌/◌, ◌%◌, ◌^◌, ◌<◌, ◌≤◌, Bool, true, false, ◌&&◌, eqb, leb, sym, ap, ◌∙◌, ⊎_elim, arith, pow_mono}
 use Rattle.std.proofs.lemmas.Nat.{and_mask, pow_pos, div_below}
 use Rattle.std.proofs.lemmas.Bool.{le-leb, lt-leb, and_left, and_right, ne_eqb}
 use Rattle.chart.proofs.types.Motion.restarts.Goals as goal
