@@ -7,6 +7,8 @@ usage: python3 tools/respell.py [--check]        at the top of the repository
 specs/, a lemma file of proofs/ or a ghost item of src/ uses, and that no library declares. Types and modules
 keep their capitals, functions of src/ their names. In a function's Answers and Invariants the labels that the
 check makes (behind `c.`, `g.`, `l.`, `goal.`, and at the head of an answer) are spelled as it makes them today.
+In the clauses of a generic function the kind's meaning is `B.meaning`, as a bound's ghost members are named today,
+and where a reference points is its `ref_ptr`.
 Words that would fall together, or under a word of the library, get the name in APART. It writes each file once;
 a second run changes nothing. --check writes nothing and lists what would change."""
 import collections
@@ -97,6 +99,19 @@ def labels(text, names):
     return re.sub(r"(?<=Goals\.\{)[^}]*(?=\})|(?<=\| )[A-Z]?[^\s(){}.;,@\"]+(?= \w+ ↦)", lambda m: one(m[0]), text)
 
 
+def members(text):
+    """A kind's meaning by its type parameter, but in the trait itself; and where a reference points."""
+    out, inside = [], False
+    for line in text.split("\n"):
+        inside = inside or line.startswith("pub trait Bound")
+        if not inside and re.match(r"\s*(requires|ensures|invariant|ghost invariant)\b", line) or re.match(r"\s*\(λ \w+\. ", line):
+            line = re.sub(r"(?<![\w.])(?:B\.Bound\.)?meaning(?![\w'])", "B.meaning", line)
+            line = re.sub(r"(?<=λ p\. p)\.ptr(?= ≡)", ".ref_ptr", line)
+        inside = inside and line != "}"
+        out.append(line)
+    return "\n".join(out)
+
+
 def main():
     top = pathlib.Path(".")
     files = sorted(p for p in top.glob("crates/*/**/*") if p.suffix in (".antt", ".rt") and "out" not in p.parts)
@@ -157,7 +172,7 @@ def main():
         elif p in lemmas:
             new = "".join(turn(part) if code else part for code, part in antt_parts(texts[p]))
         else:
-            new = "".join(turn(part) if code else part for code, part in ghost_parts(texts[p]))
+            new = members("".join(turn(part) if code else part for code, part in ghost_parts(texts[p])))
         # an import under its own name
         new = re.sub(r"(?<![\w'])([\w']+) as \1(?![\w'])", r"\1", new)
         if new != texts[p]:
