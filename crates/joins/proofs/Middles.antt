@@ -1,5 +1,5 @@
 -- The nodes between two tables, pivoted on one after the other. Assumes nothing.
-use Rattle.std.proofs.Common.{◌≡◌, ℕ, suc, ◌+◌, ◌*◌, ◌^◌, ◌<◌, ◌≤◌, List, ◌++◌, Some, ap, ◌∙◌, subst, arith}
+use Rattle.std.proofs.Common.{◌≡◌, ℕ, suc, ◌+◌, ◌*◌, ◌^◌, ◌<◌, ◌≤◌, List, ◌++◌, Some, refl, ap, ◌∙◌, subst, arith}
 use Rattle.bound.specs.Differences.{Differences}
 use Rattle.bound.specs.Meaning.{Meaning, Laws, AllowsZero}
 use Rattle.chart.specs.Charts.{Chart}
@@ -14,7 +14,7 @@ use Rattle.runs.proofs.Sizes.{sized_first}
 use Rattle.runs.proofs.BoundPivot.{sized_pivot, sum_answered}
 use Rattle.runs.proofs.BoundJoin.{join_step}
 use Rattle.runs.proofs.GoodJoin.{joining_never}
-use Rattle.table.specs.Cells.{cell, Rows, Small, with_sum, pivoted}
+use Rattle.table.specs.Cells.{cell, Beyond, Rows, Small, with_sum, pivoted}
 
 -- after pivots on the first k nodes of the middle
 pub record Middle {B : Type 0} (m : Meaning B) (n k : ℕ) (before now : List B) : Type 0 where
@@ -22,6 +22,7 @@ pub record Middle {B : Type 0} (m : Meaning B) (n k : ℕ) (before now : List B)
   pub joining : (c d : Chart) (first second : List B)
       → JoiningBounds m n c d (table_of m n first) (table_of m n second) 0 (cell m (3 * n + 3) before)
       → JoiningBounds m n c d (table_of m n first) (table_of m n second) k (cell m (3 * n + 3) now)
+  pub beyond : Beyond m ((3 * n + 3) * (3 * n + 3)) before now
 
 module _ {B : Type 0} (m : Meaning B) (laws : Laws m) where
   module _ (n : ℕ) (few : n ≤ 8) (before : List B) where
@@ -39,6 +40,7 @@ module _ {B : Type 0} (m : Meaning B) (laws : Laws m) where
         record {
           sized = sized_first D M (allowed_at m (cell m side before)) (2 ^ 40) (size_at m (cell m side before)) (λ u v hu hv. small u v (omega arith) (omega arith));
           joining = λ c d first second j. j;
+          beyond = λ i h. refl;
         }
 
     module _ (k : ℕ) (inside : k < n + 1) (now : List B) (t : Middle m n k before now) where
@@ -66,11 +68,12 @@ module _ {B : Type 0} (m : Meaning B) (laws : Laws m) where
             let (s, e) = answered u v hu hv in
             (s, e, subst (λ (p : ℕ). cell m side next u v ≡ pivoted m side p now u v) same_node (rows u v (omega arith) (omega arith)) ∙ ap (with_sum m (cell m side now u v)) e)
 
-        pub middle_more : Middle m n (k + 1) before next
-        middle_more =
+        pub middle_more : Beyond m (side * side) now next → Middle m n (k + 1) before next
+        middle_more beyond =
             subst (λ (j : ℕ). Middle m n j before next) (omega arith)
             (let made : Middle m n (suc k) before next = record {
               sized = sized_pivot m laws M (cell m side now) (suc n + k) (omega arith) (cell m side next) pivoted_to free_node (row (λ i. suc n + i) k) (2 ^ 40) t.sized;
               joining = λ c d first second j. join_step m laws n c d (table_of m n first) (table_of m n second) k (omega arith) (cell m side now) (cell m side next)
                   (t.joining c d first second j) free_node pivoted_to;
+              beyond = λ i h. beyond i h ∙ t.beyond i h;
             } in made)

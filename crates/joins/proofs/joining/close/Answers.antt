@@ -17,7 +17,7 @@ loop-k-preserved g c =
     let m = g.B.Bound.meaning in
     let p = c.args.n + 1 + c.loop-k.k in (
       λ small. middle_more m g.met.B.Bound.lawful c.args.n c.requires.0 c.args.work.now c.loop-k.k (omega arith) c.loop-k.work (c.loop-k.invariant.0 small) c.pivot_any.new.work
-          (subst (λ b. AllowsZero m b) {y = cell m (3 * c.args.n + 3) c.loop-k.work p p} c.read.ensures (c.allows_zero.ensures.yes c.if-not-allows_zero.false)) c.pivot_any.ensures.cells,
+          (subst (λ b. AllowsZero m b) {y = cell m (3 * c.args.n + 3) c.loop-k.work p p} c.read.ensures (c.allows_zero.ensures.yes c.if-not-allows_zero.false)) c.pivot_any.ensures.cells c.pivot_any.ensures.beyond,
       λ i h. c.pivot_any.ensures.beyond i h ∙ c.loop-k.invariant.1 i h,
     )
 
