@@ -45,7 +45,7 @@ abbrev pub tighter_of : {B : Type 0} (m : Meaning B) → B → B → B
 tighter_of m a b = cond (m.tighter a b) a b
 
 -- The laws. One that says that something exists is read constructively: its proof gives the thing, and whoever uses the law gets it.
--- So sum-allows takes a difference that a sum allows apart into its two parts, and tighter-no gives a difference that the first bound allows and the second does not.
+-- So sum_allows takes a difference that a sum allows apart into its two parts, and tighter_no gives a difference that the first bound allows and the second does not.
 -- In the same way ↔ is a function each way, and "not" is a function to ⊥.
 pub record Laws {B : Type 0} (m : Meaning B) : Type 0 where
   pub ordered : Ordered m.differences
