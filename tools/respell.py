@@ -104,7 +104,7 @@ def members(text):
     out, inside = [], False
     for line in text.split("\n"):
         inside = inside or line.startswith("pub trait Bound")
-        if not inside and re.match(r"\s*(requires|ensures|invariant|ghost invariant)\b", line) or re.match(r"\s*\(λ \w+\. ", line):
+        if not inside and re.match(r"\s*(?:(?:requires|ensures|invariant|ghost invariant)\b|\(λ \w+\. )", line):
             line = re.sub(r"(?<![\w.])(?:B\.Bound\.)?meaning(?![\w'])", "B.meaning", line)
             line = re.sub(r"(?<=λ p\. p)\.ptr(?= ≡)", ".ref_ptr", line)
         inside = inside and line != "}"

@@ -17,14 +17,8 @@ use Rattle.runs.proofs.WindowBounds.{upper_once, lower_once}
 use Rattle.table.specs.Cells.{at, cell, Small, with_sum}
 use Rattle.motions.specs.Windows.{lower_side, upper_side, all_more, into_by, wait_into, Direct}
 use Rattle.motions.proofs.Sized.{relaxed_small}
-use Rattle.motions.specs.Star.{best_of, to_new, from_new, SpreadTo, with_new}
+use Rattle.motions.specs.Star.{best_of, to_new, from_new, SpreadFits, SpreadTo, with_new}
 use Rattle.motions.proofs.WindowTight.{windows_tight, windows_small, upper_sided, upper_unsided, lower_sided, lower_unsided}
-
-module _ {B : Type 0} (m : Meaning B) where
-  -- the sums that they ask for are within the reach
-  pub record SpreadFits (n : ℕ) (table work : List B) : Type 0 where
-    pub toward_new : (u i : ℕ) → u < 2 * n + 2 → i < n + 1 → m.size_of (cell m (2 * n + 2) table u (n + 1 + i)) + m.size_of (at m work i) ≤ m.reach
-    pub out_of_new : (v i : ℕ) → v < 2 * n + 2 → i < n → m.size_of (at m work (n + 2 + i)) + m.size_of (cell m (2 * n + 2) table (n + 2 + i) v) ≤ m.reach
 
 pos_small : (c : ℕ) → c ≤ 1000000000 → nat_abs (pos c) ≤ 10 ^ 9
 pos_small c h = omega (arith, ints)

@@ -1,6 +1,6 @@
 // Tables of bounds (difference bound matrices), in slices that the caller lends: places, the empty chart's
-// table, pivots, limits. An inner layer: its functions ask that the slices are long enough and the sizes
-// small, which the board sees to. Nothing here allocates.
+// table, pivots, limits. An inner layer: its functions ask that the slices are long enough, and
+// `pivot`, `limit` and `first_looser` that sizes are small. Nothing here allocates.
 #![tactic(auto)]
 
 mod cells;
