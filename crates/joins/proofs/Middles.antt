@@ -1,5 +1,6 @@
 -- The nodes between two tables, pivoted on one after the other. Assumes nothing.
-use Rattle.std.proofs.Common.{◌≡◌, ℕ, suc, ◌+◌, ◌*◌, ◌^◌, ◌<◌, ◌≤◌, List, ◌++◌, Some, refl, ap, ◌∙◌, subst, arith}
+use Rattle.std.proofs.Common.{◌≡◌, ℕ, suc, ◌+◌, ◌*◌, ◌^◌, ◌<◌, ◌≤◌, List, ◌++◌, Some, None, sym, refl, ap, ◌∙◌, subst, arith}
+use native.Mathlib.Decide.{dec_lt}
 use Rattle.bound.specs.Differences.{Differences}
 use Rattle.bound.specs.Meaning.{Meaning, Laws, AllowsZero}
 use Rattle.chart.specs.Charts.{Chart}
@@ -14,7 +15,7 @@ use Rattle.runs.proofs.Sizes.{sized_first}
 use Rattle.runs.proofs.BoundPivot.{sized_pivot, sum_answered}
 use Rattle.runs.proofs.BoundJoin.{join_step}
 use Rattle.runs.proofs.GoodJoin.{joining_never}
-use Rattle.table.specs.Cells.{cell, Beyond, Rows, Small, with_sum, pivoted}
+use Rattle.table.specs.Cells.{cell, Beyond, Rows, Small, with_sum, pivoted, PivotFits}
 
 -- after pivots on the first k nodes of the middle
 pub record Middle {B : Type 0} (m : Meaning B) (n k : ℕ) (before now : List B) : Type 0 where
@@ -25,6 +26,14 @@ pub record Middle {B : Type 0} (m : Meaning B) (n k : ℕ) (before now : List B)
   pub beyond : Beyond m ((3 * n + 3) * (3 * n + 3)) before now
 
 module _ {B : Type 0} (m : Meaning B) (laws : Laws m) where
+  -- a sum that is answered is of sizes within the reach
+  answered_fits : (a b s : B) → m.sum a b ≡ Some s → m.size_of a + m.size_of b ≤ m.reach
+  answered_fits a b s e =
+      elim (dec_lt m.reach (m.size_of a + m.size_of b)) [
+        | yes h ↦ let none : m.sum a b ≡ None = (laws.sum_none a b).1 h in let z : ◌≡◌ {A = ℕ} 0 1 = cc in absurd (omega arith)
+        | no h ↦ omega arith
+      ]
+
   module _ (n : ℕ) (few : n ≤ 8) (before : List B) where
     abbrev D : Differences
     D = m.differences
@@ -51,6 +60,12 @@ module _ {B : Type 0} (m : Meaning B) (laws : Laws m) where
       answered =
           let e = length_row (λ i. suc n + i) k in
           sum_answered m laws M (cell m side now) (suc n + k) (omega arith) (row (λ i. suc n + i) k) (omega arith) t.sized
+
+      -- the sums of the next pivot are within the reach
+      pub next_fits : PivotFits m side (n + 1 + k) now
+      next_fits =
+          subst (λ (p : ℕ). PivotFits m side p now) (sym same_node)
+          (λ u v hu hv. let (s, e) = answered u v (omega arith) (omega arith) in answered_fits _ _ s e)
 
       -- where the next node's place does not allow 0, the joined chart never runs
       pub next_never : (AllowsZero m (cell m side now (n + 1 + k) (n + 1 + k)) → ⊥) → (c d : Chart) (first second : List B)

@@ -1,8 +1,8 @@
 -- The tightest of several sums, one after the other. Assumes nothing.
-use Rattle.std.proofs.Common.{◌≡◌, ℕ, zero, suc, ◌+◌, ◌*◌, ◌<◌, List, sym, refl, ap, ◌∙◌, add-one, arith}
+use Rattle.std.proofs.Common.{◌≡◌, ℕ, zero, suc, ◌+◌, ◌*◌, ◌<◌, ◌≤◌, List, sym, refl, ap, ◌∙◌, subst, add-one, arith}
 use Rattle.bound.specs.Meaning.{Meaning}
-use Rattle.table.specs.Cells.{at, relaxed}
-use Rattle.motions.specs.Star.{best_of, to_new, from_new}
+use Rattle.table.specs.Cells.{at, cell, relaxed}
+use Rattle.motions.specs.Star.{best_of, to_new, from_new, SpreadFits}
 
 module _ {B : Type 0} (m : Meaning B) (f g : ℕ → B) where
   pub best_none : (best : B) → best ≡ m.opened → best ≡ best_of m f g 0
@@ -32,3 +32,11 @@ module _ {B : Type 0} (m : Meaning B) (n : ℕ) (table before now : List B) (fro
 
   pub from_same : (v : ℕ) → from_new m n table now v ≡ from_new m n table before v
   from_same v = best_same m _ _ _ _ n (λ i l. front (n + 2 + i) (omega arith)) (λ i l. refl)
+
+  -- and so does what fits
+  pub fits_same : SpreadFits m n table before → SpreadFits m n table now
+  fits_same fits =
+      record {
+        toward_new = λ u i hu hi. subst (λ x. m.size_of (cell m (2 * n + 2) table u (n + 1 + i)) + m.size_of x ≤ m.reach) (sym (front i (omega arith))) (fits.toward_new u i hu hi);
+        out_of_new = λ v i hv hi. subst (λ x. m.size_of x + m.size_of (cell m (2 * n + 2) table (n + 2 + i) v) ≤ m.reach) (sym (front (n + 2 + i) (omega arith))) (fits.out_of_new v i hv hi);
+      }

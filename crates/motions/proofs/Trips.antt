@@ -10,6 +10,11 @@ use Rattle.table.specs.Cells.{at, cell}
 use Rattle.table.specs.Compared.{answered}
 use Rattle.motions.specs.Star.{TripAllows, StarFits, settled_cell, new_cell}
 
+-- two bounds of the star have a sum within the reach
+pub two_fit : {B : Type 0} (m : Meaning B) (n : ℕ) (work : List B) → StarFits m n work → (i j : ℕ) → i < 6 * n + 6 → j < 6 * n + 6 → (a b : B) → a ≡ at m work i → b ≡ at m work j
+    → m.size_of a + m.size_of b ≤ m.reach
+two_fit m n work fits i j hi hj a b ea eb = subst₂ (λ x y. m.size_of x + m.size_of y ≤ m.reach) (sym ea) (sym eb) (fits i j hi hj)
+
 -- a sum within the reach is answered
 answered_sum : {B : Type 0} (m : Meaning B) (laws : Laws m) (a b s : B) → m.size_of a + m.size_of b ≤ m.reach → s ≡ answered m (m.sum a b) → m.sum a b ≡ Some s
 answered_sum {B} m laws a b s fits e = go (m.sum a b) refl e

@@ -2,7 +2,7 @@
 use Rattle.std.proofs.Common.{◌≡◌, ℕ, ◌+◌, ◌*◌, ◌<◌, ◌≤◌, List, sym, refl, ap, ◌∙◌, subst, ⊎_elim, eq-or-lt_of_le, arith}
 use native.Mathlib.Decide.{ℕ_discrete}
 use Rattle.bound.specs.Meaning.{Meaning}
-use Rattle.table.specs.Cells.{cell, Beyond, Only, Holds, Rows, relaxed, pivoted}
+use Rattle.table.specs.Cells.{cell, Beyond, Only, Holds, Rows, relaxed, pivoted, PivotFits}
 use Rattle.table.proofs.Strides.{row_others, row_beyond}
 
 -- the rows above u are pivoted, but for the pivot's own, and the others are as they were
@@ -34,6 +34,12 @@ module _ {B : Type 0} (m : Meaning B) (side p : ℕ) (inside : p < side) (before
         ∙ ap (λ b. relaxed m (cell m side before u v) b (cell m side now p v)) (t.kept u p (omega arith) h inside)
         ∙ ap (λ c. relaxed m (cell m side before u v) (cell m side before u p) c) (t.own v hv)
 
+    -- where the sums of the pivot are within the reach, those of the row are still
+    pub fits_still : u < side → PivotFits m side p before → (v : ℕ) → v < side → m.size_of (cell m side now u p) + m.size_of (cell m side now p v) ≤ m.reach
+    fits_still h fits v hv =
+        subst (λ b. m.size_of b + m.size_of (cell m side now p v) ≤ m.reach) (sym (t.kept u p (omega arith) h inside))
+        (subst (λ c. m.size_of (cell m side before u p) + m.size_of c ≤ m.reach) (sym (t.own v hv)) (fits u v h hv))
+
     pub turned_more : (next : List B) → u < side → (u ≡ p → ⊥) → Only m (u * side) side now next → Holds m (u * side) side (pivoted m side p now u) next
         → Turned m side p (u + 1) before next
     turned_more next h ne only row =
@@ -49,6 +55,11 @@ module _ {B : Type 0} (m : Meaning B) (side p : ℕ) (inside : p < side) (before
 
   -- the own row, which comes last, still reads what was
   module _ (end : ℕ) (now : List B) (t : Turned m side p end before now) where
+    pub own_fits : PivotFits m side p before → (v : ℕ) → v < side → m.size_of (cell m side now p p) + m.size_of (cell m side now p v) ≤ m.reach
+    own_fits fits v hv =
+        subst (λ b. m.size_of b + m.size_of (cell m side now p v) ≤ m.reach) (sym (t.own p inside))
+        (subst (λ c. m.size_of (cell m side before p p) + m.size_of c ≤ m.reach) (sym (t.own v hv)) (fits p v inside hv))
+
     pub all_rows : (next : List B) → side ≤ end → Only m (p * side) side now next → Holds m (p * side) side (pivoted m side p now p) next
         → Rows m side side (pivoted m side p before) next
     all_rows next last only row u v hu hv =
