@@ -1,43 +1,23 @@
 // Fractions: a bound is open, or a whole number marked "at most" or "under".
 ghost use Rattle.std.specs.Prelude.{◌≡◌};
-ghost use Rattle.bound.specs.Edges.{edge_meaning, mark_plus, mark_tighter};
+ghost use Rattle.bound.specs.Edges.{edge_meaning};
 ghost use Rattle.bound.specs.Edging;
 
 use crate::Bound;
-use crate::sizes::{RANGE, within_reach};
+use crate::sizes::{in_range, within_reach};
 
-#[derive(Clone, Copy, PartialEq, Eq, Debug)]
+// In order: under a number allows less than at most it.
+#[derive(Clone, Copy, PartialEq, Eq, PartialOrd, Ord, Debug)]
 pub enum Mark {
-    AtMost,
     Under,
+    AtMost,
 }
 
-#[derive(Clone, Copy, PartialEq, Eq, Debug)]
+// In order from the tightest: by the number, between equal numbers by the mark, and last the open one.
+#[derive(Clone, Copy, PartialEq, Eq, PartialOrd, Ord, Debug)]
 pub enum Edge {
+    Number(i64, Mark),
     Open,
-    Number(Mark, i64),
-}
-
-impl Mark {
-    // The mark of a sum: under where one of the two is.
-    fn plus(self, other: Mark) -> Mark
-        ensures { result ≡ mark_plus self other }
-    {
-        match self {
-            Mark::AtMost => other,
-            Mark::Under => Mark::Under,
-        }
-    }
-
-    // Whether `other` allows all that `self` allows, at one number.
-    fn tighter(self, other: Mark) -> bool
-        ensures { result ≡ mark_tighter self other }
-    {
-        match (self, other) {
-            (Mark::AtMost, Mark::Under) => false,
-            _ => true,
-        }
-    }
 }
 
 impl Bound for Edge {
@@ -46,47 +26,33 @@ impl Bound for Edge {
     ghost lawful = { Edging.lawful };
 
     fn written(strict: bool, c: i64) -> Option<Edge> {
-        if c.unsigned_abs() > RANGE {
-            None
-        } else if strict {
-            Some(Edge::Number(Mark::Under, c))
-        } else {
-            Some(Edge::Number(Mark::AtMost, c))
-        }
+        in_range(c).map(|c| Edge::Number(c, if strict { Mark::Under } else { Mark::AtMost }))
     }
 
     fn open() -> Edge {
         Edge::Open
     }
 
+    // The same line as Tick's: a function over Bound that this calls leads back to this impl, and gets no proof.
     fn sum(self, other: Edge) -> Option<Edge> {
-        if within_reach(self.size(), other.size()) {
-            Some(self.plus(other))
-        } else {
-            None
-        }
+        within_reach(self.size(), other.size()).then(|| self.plus(other))
     }
 
     fn plus(self, other: Edge) -> Edge {
         match (self, other) {
-            (Edge::Number(m, a), Edge::Number(n, b)) => Edge::Number(m.plus(n), a + b),
+            (Edge::Number(a, m), Edge::Number(b, n)) => Edge::Number(a + b, m.min(n)),
             _ => Edge::Open,
         }
     }
 
-    // The marks matter only between equal numbers.
     fn tighter(self, other: Edge) -> bool {
-        match (self, other) {
-            (_, Edge::Open) => true,
-            (Edge::Open, Edge::Number(_, _)) => false,
-            (Edge::Number(m, a), Edge::Number(n, b)) => a < b || (a == b && m.tighter(n)),
-        }
+        self <= other
     }
 
     fn size(self) -> u64 {
         match self {
             Edge::Open => 0,
-            Edge::Number(_, c) => c.unsigned_abs(),
+            Edge::Number(c, _) => c.unsigned_abs(),
         }
     }
 }
@@ -101,15 +67,15 @@ mod tests {
     const REACH: i64 = 1_125_899_906_842_624;
 
     fn le(c: i64) -> Edge
-        ensures { result ≡ Edge.Number Mark.AtMost c }
+        ensures { result ≡ Edge.Number c Mark.AtMost }
     {
-        Edge::Number(Mark::AtMost, c)
+        Edge::Number(c, Mark::AtMost)
     }
 
     fn lt(c: i64) -> Edge
-        ensures { result ≡ Edge.Number Mark.Under c }
+        ensures { result ≡ Edge.Number c Mark.Under }
     {
-        Edge::Number(Mark::Under, c)
+        Edge::Number(c, Mark::Under)
     }
 
     #[test]

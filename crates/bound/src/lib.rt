@@ -29,10 +29,7 @@ pub trait Bound: Copy {
         requires { meaning.size_of self + meaning.size_of other ≤ meaning.reach }
         ensures { meaning.sum self other ≡ Some result }
     {
-        match self.sum(other) {
-            Some(s) => s,
-            None => unreachable(),
-        }
+        self.sum(other).unwrap()
     }
 
     // Whether `other` allows all that `self` allows.
@@ -50,13 +47,11 @@ pub trait Bound: Copy {
 pub fn zero<B: Bound>() -> B
     ensures { B.meaning.written false (pos 0) ≡ Some result }
 {
-    match B::written(false, 0) {
-        Some(b) => b,
-        None => unreachable(),
-    }
+    B::written(false, 0).unwrap()
 }
 
 // The tighter of two bounds, which allows what both allow.
+#[tactic(auto, using(crate::proofs::Lawful::tighter_else))]
 pub fn keep_tighter<B: Bound>(a: B, b: B) -> B
     ensures value { result ≡ tighter_of B.meaning a b }
     ensures both { Both B.meaning a b result }
@@ -69,12 +64,11 @@ pub fn tighten<B: Bound>(held: &mut B, bound: B)
     ensures value { held.new ≡ tighter_of B.meaning held.old bound }
     ensures both { Both B.meaning held.old bound held.new }
 {
-    if !held.tighter(bound) {
-        *held = bound;
-    }
+    *held = keep_tighter(*held, bound);
 }
 
 // Whether the bound allows the difference 0: it does where it allows all that "≤ 0" does.
+#[tactic(auto, using(crate::proofs::Lawful::zero_tighter, crate::proofs::Lawful::zero_not_tighter))]
 pub fn allows_zero<B: Bound>(bound: B) -> bool
     ensures yes { result ≡ true → AllowsZero B.meaning bound }
     ensures no { result ≡ false → AllowsZero B.meaning bound → ⊥ }
@@ -90,12 +84,12 @@ mod tests {
 
     #[test]
     fn tightest(rt: HostRuntime) {
-        let mut held = Edge::Number(Mark::AtMost, 0);
+        let mut held = Edge::Number(0, Mark::AtMost);
         assert!(rt; allows_zero(held));
         tighten(&mut held, Edge::Open);
         assert_eq!(rt; held, zero());
-        tighten(&mut held, Edge::Number(Mark::Under, 0));
-        assert_eq!(rt; held, Edge::Number(Mark::Under, 0));
+        tighten(&mut held, Edge::Number(0, Mark::Under));
+        assert_eq!(rt; held, Edge::Number(0, Mark::Under));
         assert!(rt; !allows_zero(held));
         assert_eq!(rt; keep_tighter(Tick::Open, zero()), Tick::AtMost(0));
         assert_eq!(rt; keep_tighter(Tick::AtMost(-1), zero()), Tick::AtMost(-1));
