@@ -13,72 +13,52 @@ use bound::Bound;
 pub use names::Name;
 
 // Dates of some nodes that keep a closed table two by two go on to dates of all nodes.
-pub fn partial_solutions_extend<B: Bound>() -> u8
+pub fn partial_solutions_extend<B: Bound>()
     ensures { PartialSolutionsExtend B.meaning }
-{
-    0
-}
+{}
 
 // What a place of a closed table allows, a solution reaches, and so for what both sums of a limit allow.
-pub fn closed_tables_reached<B: Bound>() -> u8
+pub fn closed_tables_reached<B: Bound>()
     ensures { ClosedTablesReached B.meaning }
-{
-    0
-}
+{}
 
 // A pivot keeps the solutions and the settled nodes; one that forbids 0 means that there is no solution.
-pub fn pivots_keep<B: Bound>() -> u8
+pub fn pivots_keep<B: Bound>()
     ensures { PivotsKeep B.meaning }
-{
-    0
-}
+{}
 
 // One new node on a closed table, and one pivot on it, give a closed table.
-pub fn new_node_closes<B: Bound>() -> u8
+pub fn new_node_closes<B: Bound>()
     ensures { NewNodeCloses B.meaning }
-{
-    0
-}
+{}
 
 // The dates of a run keep every chain.
-pub fn runs_keep_chains<B: Bound>() -> u8
+pub fn runs_keep_chains<B: Bound>()
     ensures { RunsKeepChains B.meaning }
-{
-    0
-}
+{}
 
 // A chart has a run exactly when no closed chain forbids 0.
-pub fn runs_exactly<B: Bound>() -> u8
+pub fn runs_exactly<B: Bound>()
     ensures { RunsExactly B.meaning }
-{
-    0
-}
+{}
 
 // A good table is normalised, its chart has a run, its solutions are runs, and its limits are sharp and
 // decide which pairs of readings are joined.
-pub fn tables_tell<B: Bound>() -> u8
+pub fn tables_tell<B: Bound>()
     ensures { TablesTell B.meaning }
-{
-    0
-}
+{}
 
 // One chart is within another exactly when each of its limits is tighter, and else there is a first name that fails.
-pub fn limits_tell_within<B: Bound>() -> u8
+pub fn limits_tell_within<B: Bound>()
     ensures { LimitsTellWithin B.meaning }
-{
-    0
-}
+{}
 
 // No sum of the working is refused.
-pub fn sums_answered<B: Bound>() -> u8
+pub fn sums_answered<B: Bound>()
     ensures { Answered B.meaning }
-{
-    0
-}
+{}
 
 // The worked charts: their limits, their spans, which of them run, and which is within which.
-pub fn worked_charts() -> u8
+pub fn worked_charts()
     ensures { WorkedCharts }
-{
-    0
-}
+{}
