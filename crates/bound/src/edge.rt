@@ -6,14 +6,14 @@ ghost use Rattle.bound.specs.Edging;
 use crate::Bound;
 use crate::sizes::{in_range, within_reach};
 
-// In order: under a number allows less than at most it.
+// In order from the tighter.
 #[derive(Clone, Copy, PartialEq, Eq, PartialOrd, Ord, Debug)]
 pub enum Mark {
     Under,
     AtMost,
 }
 
-// In order from the tightest: by the number, between equal numbers by the mark, and last the open one.
+// In order from the tightest: by the number, then by the mark, with the open one last (an Option would have its None first).
 #[derive(Clone, Copy, PartialEq, Eq, PartialOrd, Ord, Debug)]
 pub enum Edge {
     Number(i64, Mark),

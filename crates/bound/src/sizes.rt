@@ -2,11 +2,9 @@
 ghost use Rattle.std.specs.Prelude.{◌≡◌, ◌+◌, ◌^◌, nat_le, unsigned_abs};
 ghost use Rattle.bound.specs.Limited.{up_to};
 
-// 2^34
-const RANGE: u64 = 17_179_869_184;
+const RANGE: u64 = 1 << 34;
 
-// 2^50
-const REACH: u64 = 1_125_899_906_842_624;
+const REACH: u64 = 1 << 50;
 
 // The number, where it lies in the range.
 pub fn in_range(c: i64) -> Option<i64>

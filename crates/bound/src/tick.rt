@@ -5,7 +5,7 @@ ghost use Rattle.bound.specs.Ticking;
 use crate::Bound;
 use crate::sizes::{in_range, within_reach};
 
-// In order from the tightest.
+// In order from the tightest, with the open one last: an Option would have its None first.
 #[derive(Clone, Copy, PartialEq, Eq, PartialOrd, Ord, Debug)]
 pub enum Tick {
     AtMost(i64),

@@ -1,6 +1,7 @@
 -- What holds of every element of a list, and of every number below another.
 use Rattle.std.proofs.Common.{◌≡◌, ℕ, zero, suc, ◌+◌, ◌-◌, ◌<◌, ◌⊎◌, List, [], ◌∷◌, ◌++◌, length, refl, ap, subst, inl, inr, arith}
 use native.Mathlib.Decide.{dec_lt}
+use borrow.Author.Count.{below_more}
 use Rattle.chart.specs.Lists.{All}
 use Rattle.runs.specs.Lists.{At, row}
 use Rattle.runs.specs.Lists.At.{here, later}
@@ -36,11 +37,7 @@ pick (no n) x y = y
 
 -- what holds below n and at n holds up to n
 pub up_to : (n : ℕ) (P : ℕ → Type 0) → ((u : ℕ) → u < n → P u) → P n → (u : ℕ) → u < suc n → P u
-up_to n P below this u h = go (dec_lt u n)
-  where
-    go : Dec (u < n) → P u
-    go (yes l) = below u l
-    go (no l) = let e : n ≡ u = omega arith in subst P e this
+up_to n P below this u h = below_more P n below this u (omega arith)
 
 -- what holds below m and m above every number below k holds below m + k
 pub by_parts : (m k : ℕ) (P : ℕ → Type 0) → ((u : ℕ) → u < m → P u) → ((i : ℕ) → i < k → P (m + i)) → (u : ℕ) → u < m + k → P u
