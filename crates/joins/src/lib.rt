@@ -4,4 +4,4 @@
 
 mod joining;
 
-pub use joining::{join, join_any};
+pub use joining::join;

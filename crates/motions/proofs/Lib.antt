@@ -4,4 +4,5 @@ pub mod WindowTight
 pub mod Sized
 pub mod NewTables
 pub mod Trips
+pub mod Ranges
 pub mod Moved

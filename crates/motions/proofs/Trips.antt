@@ -39,10 +39,3 @@ module _ {B : Type 0} (m : Meaning B) (laws : Laws m) (n : ℕ) (work : List B) 
 
   pub trip_no : (AllowsZero m s → ⊥) → TripAllows m n work i → ⊥
   trip_no h t = h ((sum_is m laws onward back s es (zero_of m.differences)).1 (subst₂ Trip (sym eo) (sym eb) t))
-
--- one place of the new table, from its parts
-pub new_is : {B : Type 0} (m : Meaning B) (z : B) (n : ℕ) (motion : Motion) (table work : List B) (u v : ℕ) (held : B) (p q : ℕ) (r : B)
-    → held ≡ cell m (2 * n + 2) table u v → p ≡ motion_name n motion u → q ≡ motion_name n motion v → r ≡ settled_cell m z n work held p q → r ≡ new_cell m z n motion table work u v
-new_is m z n motion table work u v held p q r eh ep eq e =
-    e ∙ ap (λ x. settled_cell m z n work x p q) eh ∙ ap (λ (x : ℕ). settled_cell m z n work (cell m (2 * n + 2) table u v) x q) ep
-    ∙ ap (λ (x : ℕ). settled_cell m z n work (cell m (2 * n + 2) table u v) (motion_name n motion u) x) eq

@@ -6,4 +6,4 @@ mod star;
 mod windows;
 mod working;
 
-pub use working::{motion, motion_any};
+pub use working::motion;

@@ -7,17 +7,14 @@ ghost use Rattle.table.specs.Cells.{at, Beyond};
 ghost use Rattle.motions.specs.Windows.{tightened_by, Noted, Direct};
 
 use bound::{Bound, keep_tighter, zero};
-use chart::{Motion, Sign, Window};
+use chart::{Motion, Sign, Timers, Window};
 use table::clear;
 
 // A bound tightened by "< c" or "≤ c".
 fn tightened<B: Bound>(held: B, strict: bool, c: i64) -> B
     ensures { result ≡ tightened_by B.meaning held (B.meaning.written strict c) }
 {
-    match B::written(strict, c) {
-        Some(bound) => keep_tighter(held, bound),
-        None => held,
-    }
+    B::written(strict, c).map_or(held, |bound| keep_tighter(held, bound))
 }
 
 // Tightens one place.
@@ -29,12 +26,12 @@ fn write<B: Bound>(work: &mut [B], place: usize, strict: bool, c: i64)
 }
 
 // One window more. An upper one bounds the new now less the timer's date, a lower one the reverse.
-fn note<B: Bound>(work: &mut [B], n: usize, window: Window)
-    requires { (n ≤ 8) × ((window.timer ≤ n) × (2 * n + 2 ≤ length work.old)) }
-    ensures { Noted B.meaning n window work.old work.new }
+fn note<B: Bound>(work: &mut [B], timers: Timers, window: Window)
+    requires { (window.timer ≤ timers.count) × (2 * timers.count + 2 ≤ length work.old) }
+    ensures { Noted B.meaning timers.count window work.old work.new }
 {
     let lower = window.timer as usize;
-    let upper = n + 1 + lower;
+    let upper = timers.count as usize + 1 + lower;
     let c = window.number as i64;
     match window.sign {
         Sign::AtMost => write(work, upper, false, c),
@@ -49,15 +46,15 @@ fn note<B: Bound>(work: &mut [B], n: usize, window: Window)
 }
 
 // The bounds that the wait and all windows of a motion write.
-pub(crate) fn direct<B: Bound>(work: &mut [B], n: usize, motion: &Motion)
-    requires few { (n ≤ 8) × (2 * n + 2 ≤ length work.old) }
-    requires timers { All (WindowOf n) (held_motion motion.now).windows }
-    ensures bounds { (zero : B) → B.meaning.written false (pos 0) ≡ Some zero → Direct B.meaning zero n (held_motion motion.now).windows work.new }
-    ensures beyond { Beyond B.meaning (2 * n + 2) work.old work.new }
+pub(crate) fn direct<B: Bound>(work: &mut [B], timers: Timers, motion: &Motion)
+    requires room { 2 * timers.count + 2 ≤ length work.old }
+    requires timers { All (WindowOf timers.count) (held_motion motion.now).windows }
+    ensures bounds { (zero : B) → B.meaning.written false (pos 0) ≡ Some zero → Direct B.meaning zero timers.count (held_motion motion.now).windows work.new }
+    ensures beyond { Beyond B.meaning (2 * timers.count + 2) work.old work.new }
 {
-    clear(work, 2 * n + 2);
+    clear(work, 2 * timers.count as usize + 2);
     work[0] = zero();
     for window in motion.windows() {
-        note(work, n, *window);
+        note(work, timers, *window);
     }
 }

@@ -1,201 +1,188 @@
 // The working of a motion: the new now, the test for a run left, one pivot, and restarts as new names.
-ghost use Rattle.std.specs.Prelude.{◌≡◌, ℕ, ◌+◌, ◌*◌, ◌^◌, ◌<◌, ◌≤◌, true, false, [], ◌∷◌, ◌++◌, length};
+ghost use Rattle.std.specs.Prelude.{◌≡◌, ℕ, ◌+◌, ◌*◌, ◌^◌, ◌<◌, ◌≤◌, true, false, [], ◌∷◌, ◌++◌, length, IfSome, unwrap_or};
 ghost use Rattle.chart.specs.Charts.{held as held_motion, MotionOf, Chart};
-ghost use Rattle.runs.specs.Motions.{motion_name};
 ghost use Rattle.runs.specs.Good.{Good};
+ghost use Rattle.runs.specs.Motions.{motion_name};
 ghost use Rattle.runs.specs.Normal.{table_of};
-ghost use Rattle.table.specs.Cells.{at, Only, Holds, Rows, Beyond, Small};
-ghost use Rattle.table.specs.Finds.{ChartTable, Finds, Kept};
+ghost use Rattle.table.specs.Cells.{at, Beyond, Small};
+ghost use Rattle.table.specs.Finds.{Finds, Kept};
 ghost use Rattle.motions.specs.Star.{TripAllows, settled_cell, new_cell, StarFits, Settled};
 
 use crate::star::spread;
 use crate::windows::direct;
 use bound::{Bound, allows_zero, zero};
 use chart::{Motion, Timers};
-use table::{Found, MOST_SIZE, pick, read, relax, row_start, sum_or_open};
-
-// Whether every way from the new now to a timer's date and back allows 0, where these sums are answered.
-fn passes<B: Bound>(work: &[B], n: usize) -> bool
-    requires { (n ≤ 8) × (6 * n + 6 ≤ length work.now) }
-    ensures all { StarFits B.meaning n work.now → result ≡ true → (i : ℕ) → i < n → TripAllows B.meaning n work.now i }
-    ensures one { StarFits B.meaning n work.now → result ≡ false → (i : ℕ) × (i < n) × (TripAllows B.meaning n work.now i → ⊥) }
-{
-    for i in 0..n {
-        let onward = pick(work, n + 2 + i);
-        let back = pick(work, 3 * n + 4 + i);
-        if !allows_zero(sum_or_open(onward, back)) {
-            return false;
-        }
-    }
-    true
-}
-
-// The node that node `u` is after the motion: the new now, 2n + 2, for now and every restarted timer.
-fn name_of(u: usize, n: usize, motion: &Motion) -> usize
-    requires { (n ≤ 8) × (u < 2 * n + 2) }
-    ensures { result ≡ motion_name n (held_motion motion.now) u }
-{
-    if u <= n {
-        return u;
-    }
-    let timer = u - (n + 1);
-    if timer == 0 || motion.restarts(timer as u8) {
-        2 * n + 2
-    } else {
-        u
-    }
-}
-
-// What stands between the nodes `p` and `q` after the pivot on the new now.
-fn settled<B: Bound>(work: &[B], n: usize, held: B, p: usize, q: usize, zero: B) -> B
-    requires { (n ≤ 8) × (6 * n + 6 ≤ length work.now) }
-    ensures { result ≡ settled_cell B.meaning zero n work.now held p q }
-{
-    let side = 2 * n + 2;
-    if p < side {
-        let to = pick(work, 2 * n + 2 + p);
-        if q < side {
-            relax(held, to, pick(work, 4 * n + 4 + q))
-        } else {
-            to
-        }
-    } else if q < side {
-        pick(work, 4 * n + 4 + q)
-    } else {
-        zero
-    }
-}
-
-// Whether no size in row `u` of the new table is above 2^40.
-fn row_fits<B: Bound>(table: &[B], n: usize, work: &[B], motion: &Motion, u: usize, zero: B) -> bool
-    requires { (n ≤ 8) × ((u < 2 * n + 2) × (((2 * n + 2) * (2 * n + 2) ≤ length table.now) × (6 * n + 6 ≤ length work.now))) }
-    ensures all { result ≡ true → (v : ℕ) → v < 2 * n + 2 → B.meaning.size_of (new_cell B.meaning zero n (held_motion motion.now) table.now work.now u v) ≤ 2 ^ 40 }
-    ensures one { result ≡ false → (v : ℕ) × (v < 2 * n + 2) × (2 ^ 40 < B.meaning.size_of (new_cell B.meaning zero n (held_motion motion.now) table.now work.now u v)) }
-{
-    let p = name_of(u, n, motion);
-    for v in 0..2 * n + 2 {
-        let q = name_of(v, n, motion);
-        let bound = settled(work, n, read(table, 2 * n + 2, u, v), p, q, zero);
-        if bound.size() > MOST_SIZE {
-            return false;
-        }
-    }
-    true
-}
-
-// Whether no size in the new table is above 2^40.
-fn all_fit<B: Bound>(table: &[B], n: usize, work: &[B], motion: &Motion, zero: B) -> bool
-    requires { (n ≤ 8) × (((2 * n + 2) * (2 * n + 2) ≤ length table.now) × (6 * n + 6 ≤ length work.now)) }
-    ensures all { result ≡ true → (u v : ℕ) → u < 2 * n + 2 → v < 2 * n + 2 → B.meaning.size_of (new_cell B.meaning zero n (held_motion motion.now) table.now work.now u v) ≤ 2 ^ 40 }
-    ensures one { result ≡ false → (u : ℕ) × (v : ℕ) × (u < 2 * n + 2) × (v < 2 * n + 2) × (2 ^ 40 < B.meaning.size_of (new_cell B.meaning zero n (held_motion motion.now) table.now work.now u v)) }
-{
-    for u in 0..2 * n + 2 {
-        if !row_fits(table, n, work, motion, u, zero) {
-            return false;
-        }
-    }
-    true
-}
+use table::{Found, MOST_SIZE, Table, fill, pick, relax, sum_or_open};
 
 // 2^39
 const HALF_SIZE: u64 = 549_755_813_888;
 
-// Whether every bound between a node and the new now has a size of at most 2^39.
-fn modest<B: Bound>(work: &[B], n: usize) -> bool
-    requires { (n ≤ 8) × (6 * n + 6 ≤ length work.now) }
-    ensures { result ≡ true → (i : ℕ) → 2 * n + 2 ≤ i → i < 6 * n + 6 → B.meaning.size_of (at B.meaning work.now i) ≤ 2 ^ 39 }
+// Whether every bound has a size of at most 2^39.
+fn modest<B: Bound>(bounds: &[B]) -> bool
+    ensures { result ≡ true → (i : ℕ) → i < length bounds.now → B.meaning.size_of (at B.meaning bounds.now i) ≤ 2 ^ 39 }
 {
-    for i in 2 * n + 2..6 * n + 6 {
-        if pick(work, i).size() > HALF_SIZE {
-            return false;
+    bounds.iter().all(|bound| bound.size() <= HALF_SIZE)
+}
+
+// What the new table is made from, beside the old one: the bounds of the new now, which lie in the work
+// table, and the restarts.
+#[derive(Drop)]
+struct NewNow<'a, B: Bound> {
+    work: &'a [B],
+    timers: Timers,
+    motion: &'a Motion,
+    zero: B,
+    ghost room: { 6 * timers.count + 6 ≤ length work.now },
+}
+
+impl<'a, B: Bound> NewNow<'a, B> {
+    // Whether every way from the new now to a timer's date and back allows 0, where these sums are answered.
+    fn passes(&self) -> bool
+        ensures all { StarFits B.meaning self.now.timers.count self.now.work.now → result ≡ true → (i : ℕ) → i < self.now.timers.count → TripAllows B.meaning self.now.timers.count self.now.work.now i }
+        ensures one { StarFits B.meaning self.now.timers.count self.now.work.now → result ≡ false → (i : ℕ) × (i < self.now.timers.count) × (TripAllows B.meaning self.now.timers.count self.now.work.now i → ⊥) }
+    {
+        (0..self.timers.count as usize).all(|i| self.trip(i))
+    }
+
+    // Whether the way from the new now to the date of timer i + 1 and back allows 0.
+    fn trip(&self, i: usize) -> bool
+        requires { i < self.now.timers.count }
+        ensures yes { StarFits B.meaning self.now.timers.count self.now.work.now → result ≡ true → TripAllows B.meaning self.now.timers.count self.now.work.now i }
+        ensures no { StarFits B.meaning self.now.timers.count self.now.work.now → result ≡ false → TripAllows B.meaning self.now.timers.count self.now.work.now i → ⊥ }
+    {
+        let n = self.timers.count as usize;
+        let onward = pick(self.work, n + 2 + i);
+        let back = pick(self.work, 3 * n + 4 + i);
+        allows_zero(sum_or_open(onward, back))
+    }
+
+    // The node of the old table that node `u` is after the motion; none where it is the new now, as now and
+    // every restarted timer are.
+    fn name_of(&self, u: usize) -> Option<usize>
+        requires { u < 2 * self.now.timers.count + 2 }
+        ensures name { unwrap_or result (2 * self.now.timers.count + 2) ≡ motion_name self.now.timers.count (held_motion self.now.motion.now) u }
+        ensures old { IfSome result (λ p. p < 2 * self.now.timers.count + 2) }
+    {
+        let n = self.timers.count as usize;
+        if u <= n {
+            return Some(u);
+        }
+        let timer = u - (n + 1);
+        if timer == 0 || self.motion.restarts(timer as u8) {
+            None
+        } else {
+            Some(u)
         }
     }
-    true
-}
 
-// As `all_fit`, with a quick yes: sums of two sizes up to 2^39 need no look at every place.
-fn sizes_fit<B: Bound>(table: &[B], n: usize, work: &[B], motion: &Motion, zero: B) -> bool
-    requires { (n ≤ 8) × (((2 * n + 2) * (2 * n + 2) ≤ length table.now) × (6 * n + 6 ≤ length work.now)) }
-    ensures all { Small B.meaning (2 * n + 2) table.now → B.meaning.size_of zero ≤ 1 → result ≡ true → (u v : ℕ) → u < 2 * n + 2 → v < 2 * n + 2 → B.meaning.size_of (new_cell B.meaning zero n (held_motion motion.now) table.now work.now u v) ≤ 2 ^ 40 }
-    ensures one { result ≡ false → (u : ℕ) × (v : ℕ) × (u < 2 * n + 2) × (v < 2 * n + 2) × (2 ^ 40 < B.meaning.size_of (new_cell B.meaning zero n (held_motion motion.now) table.now work.now u v)) }
-{
-    modest(work, n) || all_fit(table, n, work, motion, zero)
-}
+    // The bound on the date of `p` less the new now.
+    fn into(&self, p: usize) -> B
+        requires { p < 2 * self.now.timers.count + 2 }
+        ensures { result ≡ at B.meaning self.now.work.now (2 * self.now.timers.count + 2 + p) }
+    {
+        self.work[2 * self.timers.count as usize + 2 + p]
+    }
 
-// Row `u` of the new table, in the place of the old one.
-fn settle_row<B: Bound>(table: &mut [B], n: usize, work: &[B], motion: &Motion, u: usize, zero: B)
-    requires { (n ≤ 8) × ((u < 2 * n + 2) × (((2 * n + 2) * (2 * n + 2) ≤ length table.old) × (6 * n + 6 ≤ length work.now))) }
-    ensures only { Only B.meaning (u * (2 * n + 2)) (2 * n + 2) table.old table.new }
-    ensures row { Holds B.meaning (u * (2 * n + 2)) (2 * n + 2) (new_cell B.meaning zero n (held_motion motion.now) table.old work.now u) table.new }
-{
-    let start = row_start(u, 2 * n + 2);
-    let p = name_of(u, n, motion);
-    for v in 0..2 * n + 2 {
-        let q = name_of(v, n, motion);
-        let bound = settled(work, n, pick(table, start + v), p, q, zero);
-        table[start + v] = bound;
+    // The bound on the new now less the date of `q`.
+    fn out(&self, q: usize) -> B
+        requires { q < 2 * self.now.timers.count + 2 }
+        ensures { result ≡ at B.meaning self.now.work.now (4 * self.now.timers.count + 4 + q) }
+    {
+        self.work[4 * self.timers.count as usize + 4 + q]
     }
-}
 
-// The new table, in the place of the old one.
-fn settle<B: Bound>(table: &mut [B], n: usize, work: &[B], motion: &Motion, zero: B)
-    requires { (n ≤ 8) × (((2 * n + 2) * (2 * n + 2) ≤ length table.old) × (6 * n + 6 ≤ length work.now)) }
-    ensures cells { Rows B.meaning (2 * n + 2) (2 * n + 2) (new_cell B.meaning zero n (held_motion motion.now) table.old work.now) table.new }
-    ensures beyond { Beyond B.meaning ((2 * n + 2) * (2 * n + 2)) table.old table.new }
-{
-    for u in 0..2 * n + 2 {
-        settle_row(table, n, work, motion, u, zero);
+    // What stands in row `u` and column `v` of the new table, where `held` stood in the old one: a pivot on
+    // the new now, under the new names.
+    fn settled(&self, held: B, u: usize, v: usize) -> B
+        requires { (u < 2 * self.now.timers.count + 2) × (v < 2 * self.now.timers.count + 2) }
+        ensures { result ≡ settled_cell B.meaning self.now.zero self.now.timers.count self.now.work.now held (motion_name self.now.timers.count (held_motion self.now.motion.now) u) (motion_name self.now.timers.count (held_motion self.now.motion.now) v) }
+    {
+        match (self.name_of(u), self.name_of(v)) {
+            (Some(p), Some(q)) => relax(held, self.into(p), self.out(q)),
+            (Some(p), None) => self.into(p),
+            (None, Some(q)) => self.out(q),
+            (None, None) => self.zero,
+        }
     }
-}
 
-// What is found from the bounds of the new now.
-fn finish<B: Bound>(table: &mut [B], n: usize, work: &[B], motion: &Motion, zero: B) -> Found
-    requires { (n ≤ 8) × (((2 * n + 2) * (2 * n + 2) ≤ length table.old) × (6 * n + 6 ≤ length work.now)) }
-    ensures found { StarFits B.meaning n work.now → Small B.meaning (2 * n + 2) table.old → B.meaning.size_of zero ≤ 1 → Settled B.meaning zero n (held_motion motion.now) table.old work.now table.new result }
-    ensures kept { Kept table.old table.new result }
-    ensures beyond { Beyond B.meaning ((2 * n + 2) * (2 * n + 2)) table.old table.new }
-{
-    if !passes(work, n) {
-        return Found::Never;
+    // Whether no size in the new table is above 2^40.
+    fn all_fit(&self, table: &Table<B>) -> bool
+        requires same { table.now.timers.count ≡ self.now.timers.count }
+        ensures all { result ≡ true → (u v : ℕ) → u < 2 * self.now.timers.count + 2 → v < 2 * self.now.timers.count + 2 → B.meaning.size_of (new_cell B.meaning self.now.zero self.now.timers.count (held_motion self.now.motion.now) table.now.cells.now self.now.work.now u v) ≤ 2 ^ 40 }
+        ensures one { result ≡ false → (u : ℕ) × (v : ℕ) × (u < 2 * self.now.timers.count + 2) × (v < 2 * self.now.timers.count + 2) × (2 ^ 40 < B.meaning.size_of (new_cell B.meaning self.now.zero self.now.timers.count (held_motion self.now.motion.now) table.now.cells.now self.now.work.now u v)) }
+    {
+        let side = 2 * self.timers.count as usize + 2;
+        for u in 0..side {
+            for v in 0..side {
+                if self.settled(table.read(u, v), u, v).size() > MOST_SIZE {
+                    return false;
+                }
+            }
+        }
+        true
     }
-    if !sizes_fit(table, n, work, motion, zero) {
-        return Found::Large;
+
+    // Whether every bound between a node and the new now has a size of at most 2^39.
+    fn all_modest(&self) -> bool
+        ensures { result ≡ true → (i : ℕ) → 2 * self.now.timers.count + 2 ≤ i → i < 6 * self.now.timers.count + 6 → B.meaning.size_of (at B.meaning self.now.work.now i) ≤ 2 ^ 39 }
+    {
+        let side = 2 * self.timers.count as usize + 2;
+        modest(&self.work[side..3 * side])
     }
-    settle(table, n, work, motion, zero);
-    Found::Runs
+
+    // As `all_fit`, with a quick yes: sums of two sizes up to 2^39 need no look at every place.
+    fn sizes_fit(&self, table: &Table<B>) -> bool
+        requires same { table.now.timers.count ≡ self.now.timers.count }
+        ensures all { Small B.meaning (2 * self.now.timers.count + 2) table.now.cells.now → B.meaning.size_of self.now.zero ≤ 1 → result ≡ true → (u v : ℕ) → u < 2 * self.now.timers.count + 2 → v < 2 * self.now.timers.count + 2 → B.meaning.size_of (new_cell B.meaning self.now.zero self.now.timers.count (held_motion self.now.motion.now) table.now.cells.now self.now.work.now u v) ≤ 2 ^ 40 }
+        ensures one { result ≡ false → (u : ℕ) × (v : ℕ) × (u < 2 * self.now.timers.count + 2) × (v < 2 * self.now.timers.count + 2) × (2 ^ 40 < B.meaning.size_of (new_cell B.meaning self.now.zero self.now.timers.count (held_motion self.now.motion.now) table.now.cells.now self.now.work.now u v)) }
+    {
+        self.all_modest() || self.all_fit(table)
+    }
+
+    // What is found; the new table takes the place of the old one where it is the longer chart's.
+    fn finish(&self, table: &mut [B]) -> Found
+        requires room { (2 * self.now.timers.count + 2) * (2 * self.now.timers.count + 2) ≤ length table.old }
+        ensures found { StarFits B.meaning self.now.timers.count self.now.work.now → Small B.meaning (2 * self.now.timers.count + 2) table.old → B.meaning.size_of self.now.zero ≤ 1 → Settled B.meaning self.now.zero self.now.timers.count (held_motion self.now.motion.now) table.old self.now.work.now table.new result }
+        ensures kept { Kept table.old table.new result }
+        ensures beyond { Beyond B.meaning ((2 * self.now.timers.count + 2) * (2 * self.now.timers.count + 2)) table.old table.new }
+    {
+        if !self.passes() {
+            return Found::Never;
+        }
+        let old = Table {
+            cells: table,
+            timers: self.timers,
+        };
+        if !self.sizes_fit(&old) {
+            return Found::Large;
+        }
+        let side = 2 * self.timers.count as usize + 2;
+        fill(table, side, |u, v, held| self.settled(held, u, v));
+        Found::Runs
+    }
 }
 
 // The working of one motion on a chart's table: what is found of the chart with the motion behind it. In a
 // chart's table every sum is within the reach.
-pub fn motion_any<B: Bound>(
-    table: &mut [B],
-    work: &mut [B],
-    timers: Timers,
-    motion: &Motion,
-) -> Found
-    requires room { ((2 * timers.count + 2) * (2 * timers.count + 2) ≤ length table.old) × (6 * timers.count + 6 ≤ length work.old) }
-    requires fit { MotionOf timers.count (held_motion motion.now) }
-    ensures finds { (c : Chart) → ChartTable B.meaning timers.count c table.old → Finds B.meaning timers.count (c ++ held_motion motion.now ∷ []) table.new result }
-    ensures kept { Kept table.old table.new result }
-    ensures beyond { Beyond B.meaning ((2 * timers.count + 2) * (2 * timers.count + 2)) table.old table.new }
-    ensures lent { Beyond B.meaning (6 * timers.count + 6) work.old work.new }
-{
-    let n = timers.count as usize;
-    let zero = zero();
-    direct(work, n, motion);
-    spread(table, n, work);
-    finish(table, n, work, motion, zero)
-}
-
-// As `motion_any`, on a table with no size above 2^40 that is good for a chart.
 pub fn motion<B: Bound>(table: &mut [B], work: &mut [B], timers: Timers, motion: &Motion) -> Found
     requires room { ((2 * timers.count + 2) * (2 * timers.count + 2) ≤ length table.old) × (6 * timers.count + 6 ≤ length work.old) }
-    requires small { Small B.meaning (2 * timers.count + 2) table.old }
     requires fit { MotionOf timers.count (held_motion motion.now) }
-    ensures finds { (c : Chart) → Good B.meaning.differences timers.count c (table_of B.meaning timers.count table.old) → Finds B.meaning timers.count (c ++ held_motion motion.now ∷ []) table.new result }
+    ensures finds { (c : Chart) → Good B.meaning.differences timers.count c (table_of B.meaning timers.count table.old) → Small B.meaning (2 * timers.count + 2) table.old → Finds B.meaning timers.count (c ++ held_motion motion.now ∷ []) table.new result }
     ensures kept { Kept table.old table.new result }
     ensures beyond { Beyond B.meaning ((2 * timers.count + 2) * (2 * timers.count + 2)) table.old table.new }
     ensures lent { Beyond B.meaning (6 * timers.count + 6) work.old work.new }
 {
-    motion_any(table, work, timers, motion)
+    direct(work, timers, motion);
+    let old = Table {
+        cells: table,
+        timers,
+    };
+    spread(&old, work);
+    let new_now = NewNow {
+        work,
+        timers,
+        motion,
+        zero: zero(),
+    };
+    new_now.finish(table)
 }

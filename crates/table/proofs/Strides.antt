@@ -28,12 +28,29 @@ module _ {B : Type 0} (m : Meaning B) where
         above = λ i h. get_or-set_other now (start + v) i x m.opened (λ e. omega (arith, e)) ∙ o.above i (omega arith);
       }
 
-  pub holds_more : (start v : ℕ) (f : ℕ → B) (now : List B) (x : B) → start + v < length now → x ≡ f v → Holds m start v f now → Holds m start (v + 1) f (set now (start + v) x)
-  holds_more start v f now x inside e h w l =
+  pub only_wider : (start v count : ℕ) (before now : List B) → v ≤ count → Only m start v before now → Only m start count before now
+  only_wider start v count before now h o = record { below = o.below; above = λ i k. o.above i (omega arith) }
+
+  -- what holds of every place from `start` on, with one place more
+  pub each_more : (start v : ℕ) (P : ℕ → B → Type 0) (now : List B) (x : B) → start + v < length now → P v x → ((w : ℕ) → w < v → P w (at m now (start + w)))
+      → (w : ℕ) → w < v + 1 → P w (at m (set now (start + v) x) (start + w))
+  each_more start v P now x inside here h w l =
       ⊎_elim
-      (λ (q : w ≡ v). subst (λ (y : ℕ). at m (set now (start + v) x) (start + y) ≡ f y) (sym q) (get_or-set_same now (start + v) x m.opened inside ∙ e))
-      (λ (q : w < v). get_or-set_other now (start + v) (start + w) x m.opened (λ e. omega (arith, e)) ∙ h w q)
+      (λ (q : w ≡ v). subst (λ (y : ℕ). P y (at m (set now (start + v) x) (start + y))) (sym q) (subst (P v) (sym (get_or-set_same now (start + v) x m.opened inside)) here))
+      (λ (q : w < v). subst (P w) (sym (get_or-set_other now (start + v) (start + w) x m.opened (λ e. omega (arith, e)))) (h w q))
       (eq-or-lt_of_le {n = w} {m = v} (omega arith))
+
+  pub holds_more : (start v : ℕ) (f : ℕ → B) (now : List B) (x : B) → start + v < length now → x ≡ f v → Holds m start v f now → Holds m start (v + 1) f (set now (start + v) x)
+  holds_more start v f now x inside = each_more start v (λ w b. b ≡ f w) now x inside
+
+  -- the first rows are what the rule made of what stood there; the others and what lies beyond the table are as they were
+  pub record Filled (side : ℕ) (P : ℕ → ℕ → B → B → Type 0) (rows : ℕ) (before now : List B) : Type 0 where
+    pub done : (u v : ℕ) → u < rows → v < side → P u v (cell m side before u v) (cell m side now u v)
+    pub left : (u v : ℕ) → rows ≤ u → u < side → v < side → cell m side now u v ≡ cell m side before u v
+    pub beyond : Beyond m (side * side) before now
+
+  pub filled_none : (side : ℕ) (P : ℕ → ℕ → B → B → Type 0) (before : List B) → Filled side P 0 before before
+  filled_none side P before = record { done = λ u v l. absurd (omega arith); left = λ u v l h j. refl; beyond = λ i l. refl }
 
   -- ── one row after the other ──
 
@@ -48,13 +65,20 @@ module _ {B : Type 0} (m : Meaning B) where
     pub row_beyond : u < side → Beyond m (side * side) before after
     row_beyond h i l = only.above i (omega (arith, is, row_within u side h))
 
-    -- what the rows hold, with one row more
-    pub rows_more : (f : ℕ → ℕ → B) → Rows m side u f before → Holds m start side (f u) after → Rows m side (u + 1) f after
-    rows_more f rows row w v l hv =
-        ⊎_elim
-        (λ (q : w ≡ u). subst (λ (y : ℕ). cell m side after y v ≡ f y v) (sym q) (ap (λ (i : ℕ). at m after (i + v)) (sym is) ∙ row v hv))
-        (λ (q : w < u). row_others w v hv (λ e. omega (arith, e)) ∙ rows w v q hv)
-        (eq-or-lt_of_le {n = w} {m = u} (omega arith))
+    -- the rows that a rule has filled, with one row more
+    pub filled_more : (P : ℕ → ℕ → B → B → Type 0) (first : List B) → u < side → Filled side P u first before
+        → ((v : ℕ) → v < side → P u v (at m before (start + v)) (at m after (start + v))) → Filled side P (u + 1) first after
+    filled_more P first h f row =
+        record {
+          done = λ w v l hv. ⊎_elim
+              (λ (q : w ≡ u). subst (λ (y : ℕ). P y v (cell m side first y v) (cell m side after y v)) (sym q)
+              (subst (λ a. P u v a (cell m side after u v)) (f.left u v (omega arith) h hv)
+              (subst (λ (i : ℕ). P u v (at m before (i + v)) (at m after (i + v))) is (row v hv))))
+              (λ (q : w < u). subst (P w v (cell m side first w v)) (sym (row_others w v hv (λ e. omega (arith, e)))) (f.done w v q hv))
+              (eq-or-lt_of_le {n = w} {m = u} (omega arith));
+          left = λ w v l hw hv. row_others w v hv (λ e. omega (arith, e)) ∙ f.left w v (omega arith) hw hv;
+          beyond = λ i l. row_beyond h i l ∙ f.beyond i l;
+        }
 
   -- places that a sweep has not come to: those before it, and those after
   pub unswept : (base other count v : ℕ) (before now : List B) → (other < base → other + count ≤ base) → v < count → Only m base v before now

@@ -4,7 +4,6 @@ use Rattle.bound.specs.Meaning.{Meaning, tighter_of}
 use Rattle.runs.specs.Claims.{FailsFirst}
 use Rattle.runs.specs.Limits.{Name, NameOf}
 use Rattle.runs.specs.Normal.{place}
-use Rattle.runs.specs.Search.{AllD, AllC, AllB, FirstD, FirstC, FirstB}
 use Rattle.table.specs.Cells.{at}
 
 -- two parts of a name are up to n, and equal only where both are 0
@@ -48,18 +47,6 @@ module _ {B : Type 0} (m : Meaning B) where
   AllTighter count table other = (i : ℕ) → i < count → m.tighter (at m table i) (at m other i) ≡ true
 
   -- what is found: nothing where every name passes, else the first that fails
-  abbrev pub FoundD : ℕ → (table other : List B) → (a b c : ℕ) → Option Name → Type 0
-  FoundD n table other a b c None = AllD n (tighter_at n table other) a b c
-  FoundD n table other a b c (Some l) = FirstD n (tighter_at n table other) a b c l.d × (l.a ≡ a) × (l.b ≡ b) × (l.c ≡ c)
-
-  abbrev pub FoundC : ℕ → (table other : List B) → (a b : ℕ) → Option Name → Type 0
-  FoundC n table other a b None = AllC n (tighter_at n table other) a b
-  FoundC n table other a b (Some l) = FirstC n (tighter_at n table other) a b l.c l.d × (l.a ≡ a) × (l.b ≡ b)
-
-  abbrev pub FoundB : ℕ → (table other : List B) → (a : ℕ) → Option Name → Type 0
-  FoundB n table other a None = AllB n (tighter_at n table other) a
-  FoundB n table other a (Some l) = FirstB n (tighter_at n table other) a l.b l.c l.d × (l.a ≡ a)
-
   abbrev pub FoundFirst : ℕ → (table other : List B) → Option Name → Type 0
   FoundFirst n table other None = (l : Name) → NameOf n l → tighter_at n table other l ≡ true
   FoundFirst n table other (Some l) = FailsFirst m n (limit_at n table) (limit_at n other) l

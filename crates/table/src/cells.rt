@@ -2,6 +2,7 @@
 ghost use Rattle.std.specs.Prelude.{◌≡◌, ℕ, ◌+◌, ◌*◌, ◌<◌, ◌≤◌, length};
 ghost use Rattle.table.specs.Cells.{at, cell, Beyond};
 
+use crate::filling::fill_row;
 use bound::Bound;
 
 // The place where row `u` of a table of that side starts.
@@ -35,8 +36,6 @@ pub fn clear<B: Bound>(table: &mut [B], count: usize)
     ensures cleared { (i : ℕ) → i < count → at B.meaning table.new i ≡ B.meaning.opened }
     ensures beyond { Beyond B.meaning count table.old table.new }
 {
-    let open = B::open();
-    for i in 0..count {
-        table[i] = open;
-    }
+    // `fill` of the library asks for a clone that cannot fail, and a kind promises none
+    fill_row(&mut table[..count], |_, _| B::open());
 }

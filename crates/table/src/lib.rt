@@ -4,13 +4,17 @@
 #![tactic(auto)]
 
 mod cells;
+mod filling;
 mod found;
 mod limits;
 mod opening;
 mod pivots;
+mod view;
 
 pub use cells::{clear, pick, read, row_start};
+pub use filling::{fill, fill_row};
 pub use found::{Found, MOST_SIZE};
-pub use limits::{first_looser, first_looser_any, is_name, limit, limit_any, sum_or_open};
+pub use limits::{is_name, sum_or_open};
 pub use opening::empty;
-pub use pivots::{pivot, pivot_any, relax};
+pub use pivots::{pivot, relax};
+pub use view::Table;

@@ -4,7 +4,7 @@ ghost use Rattle.runs.specs.Empty.{base};
 ghost use Rattle.table.specs.Cells.{Only, Holds, Rows, Beyond, empty_cell};
 ghost use Rattle.table.specs.Finds.{ChartTable};
 
-use crate::cells::row_start;
+use crate::filling::fill;
 use bound::{Bound, zero};
 use chart::Timers;
 
@@ -26,17 +26,6 @@ fn empty_cell<B: Bound>(n: usize, u: usize, v: usize, zero: B) -> B
     if j == 0 || i == j { zero } else { B::open() }
 }
 
-// Row `u` of the empty chart's table, from `start` on.
-fn empty_row<B: Bound>(table: &mut [B], start: usize, n: usize, u: usize, zero: B)
-    requires { (n ≤ 8) × (start + (2 * n + 2) ≤ length table.old) }
-    ensures only { Only B.meaning start (2 * n + 2) table.old table.new }
-    ensures row { Holds B.meaning start (2 * n + 2) (empty_cell B.meaning zero n u) table.new }
-{
-    for v in 0..2 * n + 2 {
-        table[start + v] = empty_cell(n, u, v, zero);
-    }
-}
-
 // The empty chart's table for these timers, at the front of the slice.
 pub fn empty<B: Bound>(table: &mut [B], timers: Timers)
     requires { (2 * timers.count + 2) * (2 * timers.count + 2) ≤ length table.old }
@@ -45,9 +34,6 @@ pub fn empty<B: Bound>(table: &mut [B], timers: Timers)
     ensures beyond { Beyond B.meaning ((2 * timers.count + 2) * (2 * timers.count + 2)) table.old table.new }
 {
     let n = timers.count as usize;
-    let side = 2 * n + 2;
     let zero = zero();
-    for u in 0..side {
-        empty_row(table, row_start(u, side), n, u, zero);
-    }
+    fill(table, 2 * n + 2, |u, v, _| empty_cell(n, u, v, zero));
 }

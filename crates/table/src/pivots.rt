@@ -1,6 +1,6 @@
 // One pivot of a square table: every place becomes the tighter of itself and the way by one node.
 ghost use Rattle.std.specs.Prelude.{◌≡◌, ◌+◌, ◌*◌, ◌<◌, ◌≤◌, length};
-ghost use Rattle.table.specs.Cells.{at, Only, Holds, Rows, Beyond, relaxed, pivoted, PivotFits};
+ghost use Rattle.table.specs.Cells.{at, Only, Holds, Rows, Beyond, relaxed, pivoted};
 
 use crate::cells::row_start;
 use bound::{Bound, keep_tighter};
@@ -9,10 +9,9 @@ use bound::{Bound, keep_tighter};
 pub fn relax<B: Bound>(held: B, first: B, second: B) -> B
     ensures { result ≡ relaxed B.meaning held first second }
 {
-    match first.sum(second) {
-        Some(sum) => keep_tighter(held, sum),
-        None => held,
-    }
+    first
+        .sum(second)
+        .map_or(held, |sum| keep_tighter(held, sum))
 }
 
 // Relaxes `count` places from `base` on, each by `bound` and the place as far from `other` on.
@@ -22,6 +21,7 @@ fn sweep<B: Bound>(work: &mut [B], base: usize, other: usize, count: usize, boun
     ensures only { Only B.meaning base count work.old work.new }
     ensures row { Holds B.meaning base count (λ v. relaxed B.meaning (at B.meaning work.old (base + v)) bound (at B.meaning work.old (other + v))) work.new }
 {
+    // by index, since both rows lie in one slice
     for v in 0..count {
         work[base + v] = relax(work[base + v], bound, work[other + v]);
     }
@@ -40,8 +40,8 @@ fn pivot_row<B: Bound>(work: &mut [B], side: usize, p: usize, u: usize)
 }
 
 // A pivot on `p` of the table of that side at the front of `work`; a place stays where the kind answers no sum.
-pub fn pivot_any<B: Bound>(work: &mut [B], side: usize, p: usize)
-    requires { (p < side) × ((side ≤ 27) × (side * side ≤ length work.old)) }
+pub fn pivot<B: Bound>(work: &mut [B], side: usize, p: usize)
+    requires within { (p < side) × ((side ≤ 27) × (side * side ≤ length work.old)) }
     ensures cells { Rows B.meaning side side (pivoted B.meaning side p work.old) work.new }
     ensures beyond { Beyond B.meaning (side * side) work.old work.new }
 {
@@ -52,14 +52,4 @@ pub fn pivot_any<B: Bound>(work: &mut [B], side: usize, p: usize)
     }
     // the pivot's own row changes last, since the others read it
     pivot_row(work, side, p, p);
-}
-
-// As `pivot_any`, where every sum is within the reach.
-pub fn pivot<B: Bound>(work: &mut [B], side: usize, p: usize)
-    requires within { (p < side) × ((side ≤ 27) × (side * side ≤ length work.old)) }
-    requires sizes { PivotFits B.meaning side p work.old }
-    ensures cells { Rows B.meaning side side (pivoted B.meaning side p work.old) work.new }
-    ensures beyond { Beyond B.meaning (side * side) work.old work.new }
-{
-    pivot_any(work, side, p)
 }

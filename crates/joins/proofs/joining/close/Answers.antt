@@ -10,15 +10,15 @@ pub loop-k-init : goal.loop-k-init
 loop-k-init g c =
     let m = g.B.Bound.meaning in
     let before = c.args.work.now in
-    (middle_none m g.met.B.Bound.lawful c.args.n c.requires.0 before, λ i h. refl {a = at m before i})
+    (middle_none m g.met.B.Bound.lawful c.args.timers.count c.args.timers.most before, λ i h. refl {a = at m before i})
 
 pub loop-k-preserved : goal.loop-k-preserved
 loop-k-preserved g c =
     let m = g.B.Bound.meaning in
-    let p = c.args.n + 1 + c.loop-k.k in (
-      λ small. middle_more m g.met.B.Bound.lawful c.args.n c.requires.0 c.args.work.now c.loop-k.k (omega arith) c.loop-k.work (c.loop-k.invariant.0 small) c.pivot_any.new.work
-          (subst (λ b. AllowsZero m b) {y = cell m (3 * c.args.n + 3) c.loop-k.work p p} c.read.ensures (c.allows_zero.ensures.yes c.if-not-allows_zero.false)) c.pivot_any.ensures.cells c.pivot_any.ensures.beyond,
-      λ i h. c.pivot_any.ensures.beyond i h ∙ c.loop-k.invariant.1 i h,
+    let p = c.args.timers.count + 1 + c.loop-k.k in (
+      λ small. middle_more m g.met.B.Bound.lawful c.args.timers.count c.args.timers.most c.args.work.now c.loop-k.k (omega arith) c.loop-k.work (c.loop-k.invariant.0 small) c.pivot.new.work
+          (subst (λ b. AllowsZero m b) {y = cell m (3 * c.args.timers.count + 3) c.loop-k.work p p} c.read.ensures (c.allows_zero.ensures.yes c.if-not-allows_zero.false)) c.pivot.ensures.cells c.pivot.ensures.beyond,
+      λ i h. c.pivot.ensures.beyond i h ∙ c.loop-k.invariant.1 i h,
     )
 
 pub returns-then-not-allows_zero : goal.returns-then-not-allows_zero
@@ -26,7 +26,7 @@ returns-then-not-allows_zero g c =
     let m = g.B.Bound.meaning in
     record {
       closed = λ _ e. let z : ◌≡◌ {A = ℕ} 0 1 = cc in absurd (omega arith);
-      never = λ small _. next_never m g.met.B.Bound.lawful c.args.n c.requires.0 c.args.work.now c.loop-k.k (omega arith) c.loop-k.work (c.loop-k.invariant.0 small)
+      never = λ small _. next_never m g.met.B.Bound.lawful c.args.timers.count c.args.timers.most c.args.work.now c.loop-k.k (omega arith) c.loop-k.work (c.loop-k.invariant.0 small)
           (subst (λ b. (AllowsZero m b → ⊥)) c.read.ensures (c.allows_zero.ensures.no c.if-not-allows_zero.true));
       beyond = c.loop-k.invariant.1;
     }
@@ -34,7 +34,7 @@ returns-then-not-allows_zero g c =
 pub returns : goal.returns
 returns g c =
     let m = g.B.Bound.meaning in
-    let n = c.args.n in
+    let n = c.args.timers.count in
     record {
       closed = λ small _ a b first second j.
           subst (λ (k : ℕ). JoiningBounds m n a b (table_of m n first) (table_of m n second) k (cell m (3 * n + 3) c.loop-k.work)) (omega arith)

@@ -1,20 +1,5 @@
-use Rattle.std.proofs.Common.{◌+◌, ◌*◌, ◌∙◌, arith}
-use Rattle.joins.specs.Joins.{joined_cell}
-use Rattle.table.proofs.Strides.{rows_more, row_beyond}
+use Rattle.std.proofs.Common.{rules}
 use Rattle.joins.proofs.joining.lay_out.Goals as goal
 
-pub loop-u-preserved : goal.loop-u-preserved
-loop-u-preserved g c =
-    let m = g.B.Bound.meaning in
-    let n = c.args.n in
-    let side = 3 * n + 3 in
-    let u = c.loop-u.u in
-    let start = c.row_start.result in
-    let now = c.loop-u.work in
-    let next = c.joined_row.new.work in (
-      rows_more m side u start now next c.row_start.ensures.value c.joined_row.ensures.only (joined_cell m n c.args.table.now c.args.other.now) c.loop-u.invariant.0 c.joined_row.ensures.row,
-      λ i h. row_beyond m side u start now next c.row_start.ensures.value c.joined_row.ensures.only c.loop-u-test.true i h ∙ c.loop-u.invariant.1 i h,
-    )
-
-pub returns : goal.returns
-returns g c = record { cells = λ u v hu hv. c.loop-u.invariant.0 u v (omega arith) hv; beyond = c.loop-u.invariant.1 }
+pub returns-clause-cells : goal.returns-clause-cells
+returns-clause-cells g c = λ u v hu hv. let p = c.fill.ensures.cells u v hu hv in search rules

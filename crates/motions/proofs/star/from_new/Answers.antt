@@ -10,9 +10,8 @@ pub loop-i-preserved : goal.loop-i-preserved
 loop-i-preserved g c =
     let m = g.B.Bound.meaning in
     let i = c.loop-i.i in
-    let work = c.args.work.now in
-    best_more m _ _ i c.loop-i.best c.index-work-n.result c.read.result c.relax-best.result c.loop-i.invariant
-    (get_or_read work (c.args.n + 2 + i) c.index-work-n.result (omega arith) c.index-work-n.is m.opened) c.read.ensures c.relax-best.ensures
+    best_more m _ _ i c.loop-i.best c.index-direct-n.result c.read.result c.relax-best.result c.loop-i.invariant
+    (get_or_read c.args.direct.now (c.args.table.now.timers.count + 2 + i) c.index-direct-n.result (omega arith) c.index-direct-n.is m.opened) c.read.ensures c.relax-best.ensures
 
 pub returns : goal.returns
-returns g c = best_to g.B.Bound.meaning _ _ c.loop-i.i c.args.n (omega arith) c.loop-i.best c.loop-i.invariant
+returns g c = best_to g.B.Bound.meaning _ _ c.loop-i.i c.args.table.now.timers.count (omega arith) c.loop-i.best c.loop-i.invariant

@@ -10,9 +10,8 @@ pub loop-i-preserved : goal.loop-i-preserved
 loop-i-preserved g c =
     let m = g.B.Bound.meaning in
     let i = c.loop-i.i in
-    let work = c.args.work.now in
-    best_more m _ _ i c.loop-i.best c.read.result c.index-work-i.result c.relax-best.result c.loop-i.invariant c.read.ensures
-    (get_or_read work i c.index-work-i.result (omega arith) c.index-work-i.is m.opened) c.relax-best.ensures
+    best_more m _ _ i c.loop-i.best c.read.result c.index-direct-i.result c.relax-best.result c.loop-i.invariant c.read.ensures
+    (get_or_read c.args.direct.now i c.index-direct-i.result (omega arith) c.index-direct-i.is m.opened) c.relax-best.ensures
 
 pub returns : goal.returns
-returns g c = best_to g.B.Bound.meaning _ _ c.loop-i.i (c.args.n + 1) (omega arith) c.loop-i.best c.loop-i.invariant
+returns g c = best_to g.B.Bound.meaning _ _ c.loop-i.i (c.args.table.now.timers.count + 1) (omega arith) c.loop-i.best c.loop-i.invariant

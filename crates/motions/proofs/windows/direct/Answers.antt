@@ -6,25 +6,25 @@ use Rattle.motions.proofs.WindowTurns.{noting_none, noting_more, noting_all, all
 use Rattle.motions.proofs.windows.direct.Goals as goal
 
 pub loop-window-init : goal.loop-window-init
-loop-window-init g c = noting_none g.B.Bound.meaning c.args.n c.windows-window-items.result.now (set c.clear.new.table 0 c.zero.result)
+loop-window-init g c = noting_none g.B.Bound.meaning c.args.timers.count c.windows-window-items.result.now (set c.clear.new.table 0 c.zero.result)
 
 pub note-requires : goal.note-requires
 note-requires g c =
-    let n = c.args.n in
+    let n = c.args.timers.count in
     let ws = c.windows-window-items.result.now in
     let l = length-set c.clear.new.table 0 c.zero.result in
     let all = subst (All (WindowOf n)) (sym c.windows-window-items.ensures) c.requires.timers in
-    (c.requires.few.0, (all_item (WindowOf n) ws c.loop-window.window-index c.window-item.result all c.loop-window-test.true c.window-item.is, omega arith))
+    (all_item (WindowOf n) ws c.loop-window.window-index c.window-item.result all c.loop-window-test.true c.window-item.is, omega arith)
 
 pub loop-window-preserved : goal.loop-window-preserved
 loop-window-preserved g c =
-    noting_more g.B.Bound.meaning c.args.n c.windows-window-items.result.now (set c.clear.new.table 0 c.zero.result) c.loop-window.window-index c.loop-window.work c.loop-window.invariant
+    noting_more g.B.Bound.meaning c.args.timers.count c.windows-window-items.result.now (set c.clear.new.table 0 c.zero.result) c.loop-window.window-index c.loop-window.work c.loop-window.invariant
     c.window-item.result c.note.new.work c.loop-window-test.true c.window-item.is c.note.ensures
 
 pub returns : goal.returns
 returns g c =
     let m = g.B.Bound.meaning in
-    let n = c.args.n in
+    let n = c.args.timers.count in
     let ws = c.windows-window-items.result.now in
     let t = c.clear.new.table in
     let z = c.zero.result in

@@ -1,20 +1,9 @@
-use Rattle.std.proofs.Common.{◌<◌, length, ◌∙◌, arith, get_or-set_other, get_or-set_same, below_more}
+use Rattle.std.proofs.Common.{rules, ◌≡◌, length, take, ◌∙◌, length-take-le, arith}
+use Rattle.std.proofs.lemmas.List.{get_or_append_left}
 use Rattle.table.proofs.cells.clear.Goals as goal
 
-pub loop-i-preserved : goal.loop-i-preserved
-loop-i-preserved g c =
-    let m = g.B.Bound.meaning in
-    let i = c.loop-i.i in
-    let t = c.loop-i.table in
-    let x = c.open-open.result in
-    let inside : i < length t = omega arith in (
-      λ j h. get_or-set_other t i j x m.opened (λ e. omega (arith, e)) ∙ c.loop-i.invariant.0 j (omega arith),
-      below_more _ _ (λ j h. get_or-set_other t i j x m.opened (λ e. omega (arith, e)) ∙ c.loop-i.invariant.1 j h) (get_or-set_same t i x m.opened inside ∙ c.open-open.ensures),
-    )
-
-pub returns : goal.returns
-returns g c =
-    record {
-      cleared = λ i h. c.loop-i.invariant.1 i (omega arith);
-      beyond = λ i h. c.loop-i.invariant.0 i (omega arith);
-    }
+pub returns-clause-cleared : goal.returns-clause-cleared
+returns-clause-cleared g c = λ i h.
+    let taken : length (take c.args.count c.args.table.now) ≡ c.args.count = length-take-le c.args.count c.args.table.now c.requires in
+    get_or_append_left c.fill_row.new.row _ g.B.Bound.meaning.opened i (omega (arith, taken))
+    ∙ (let p = c.fill_row.ensures.row i (omega (arith, taken)) in search rules)

@@ -1,0 +1,25 @@
+// A chart's table, to be read.
+ghost use Rattle.std.specs.Prelude.{◌≡◌, ◌+◌, ◌*◌, ◌<◌, ◌≤◌, length};
+ghost use Rattle.table.specs.Cells.{cell};
+
+use crate::cells::read;
+use bound::Bound;
+use chart::Timers;
+
+// The table of a chart with these timers: (2n + 2)² places at the front of a slice, row by row.
+#[derive(Drop)]
+pub struct Table<'a, B: Bound> {
+    pub cells: &'a [B],
+    pub timers: Timers,
+    ghost room: { (2 * timers.count + 2) * (2 * timers.count + 2) ≤ length cells.now },
+}
+
+impl<'a, B: Bound> Table<'a, B> {
+    // The bound in row `u` and column `v`.
+    pub fn read(&self, u: usize, v: usize) -> B
+        requires { (u < 2 * self.now.timers.count + 2) × (v < 2 * self.now.timers.count + 2) }
+        ensures { result ≡ cell B.meaning (2 * self.now.timers.count + 2) self.now.cells.now u v }
+    {
+        read(self.cells, 2 * self.timers.count as usize + 2, u, v)
+    }
+}
