@@ -1,9 +1,11 @@
 -- Rows of a square table lie apart, and a table is filled row by row. Assumes nothing.
-use Rattle.std.proofs.Common.{◌≡◌, ℕ, ◌+◌, ◌*◌, ◌<◌, ◌≤◌, ◌⊎◌, List, length, set, sym, refl, ap, ◌∙◌, subst, inl, inr, ⊎_elim, add-mul, eq-or-lt_of_le, arith, get_or-set_other, get_or-set_same}
+use Rattle.std.proofs.Common.{◌≡◌, ℕ, ◌+◌, ◌-◌, ◌*◌, ◌<◌, ◌≤◌, ◌⊎◌, List, ◌++◌, length, take, drop, set, sym, refl, ap, ◌∙◌, subst, inl, inr, ⊎_elim, add-mul, eq-or-lt_of_le, arith, get_or-set_other, get_or-set_same}
 use native.Mathlib.Decide.{dec_lt}
+use borrow.Rule.Slice.PartMut.{put_mid}
+use Rattle.std.proofs.lemmas.List.{length-take-le, get_or-take, get_or-drop, get_or_append_left, get_or-append_right}
 use Rattle.std.proofs.lemmas.Nat.{mul-le}
 use Rattle.bound.specs.Meaning.{Meaning}
-use Rattle.table.specs.Cells.{at, cell, Beyond, Only, Holds, Rows}
+use Rattle.table.specs.Cells.{at, cell, Beyond, Only, Holds}
 
 -- a row above another ends before that begins
 pub row_before : (u w side : ℕ) → u < w → u * side + side ≤ w * side
@@ -18,9 +20,6 @@ apart u w ne = elim (dec_lt u w) [ yes h ↦ inl h | no n ↦ inr (omega arith) 
 module _ {B : Type 0} (m : Meaning B) where
   -- ── one place after the other ──
 
-  pub only_none : (start : ℕ) (before : List B) → Only m start 0 before before
-  only_none start before = record { below = λ i h. refl; above = λ i h. refl }
-
   pub only_more : (start v : ℕ) (before now : List B) (x : B) → Only m start v before now → Only m start (v + 1) before (set now (start + v) x)
   only_more start v before now x o =
       record {
@@ -28,20 +27,38 @@ module _ {B : Type 0} (m : Meaning B) where
         above = λ i h. get_or-set_other now (start + v) i x m.opened (λ e. omega (arith, e)) ∙ o.above i (omega arith);
       }
 
-  pub only_wider : (start v count : ℕ) (before now : List B) → v ≤ count → Only m start v before now → Only m start count before now
-  only_wider start v count before now h o = record { below = o.below; above = λ i k. o.above i (omega arith) }
-
-  -- what holds of every place from `start` on, with one place more
-  pub each_more : (start v : ℕ) (P : ℕ → B → Type 0) (now : List B) (x : B) → start + v < length now → P v x → ((w : ℕ) → w < v → P w (at m now (start + w)))
-      → (w : ℕ) → w < v + 1 → P w (at m (set now (start + v) x) (start + w))
-  each_more start v P now x inside here h w l =
+  pub holds_more : (start v : ℕ) (f : ℕ → B) (now : List B) (x : B) → start + v < length now → x ≡ f v → Holds m start v f now → Holds m start (v + 1) f (set now (start + v) x)
+  holds_more start v f now x inside e h w l =
       ⊎_elim
-      (λ (q : w ≡ v). subst (λ (y : ℕ). P y (at m (set now (start + v) x) (start + y))) (sym q) (subst (P v) (sym (get_or-set_same now (start + v) x m.opened inside)) here))
-      (λ (q : w < v). subst (P w) (sym (get_or-set_other now (start + v) (start + w) x m.opened (λ e. omega (arith, e)))) (h w q))
+      (λ (q : w ≡ v). subst (λ (y : ℕ). at m (set now (start + v) x) (start + y) ≡ f y) (sym q) (get_or-set_same now (start + v) x m.opened inside ∙ e))
+      (λ (q : w < v). get_or-set_other now (start + v) (start + w) x m.opened (λ e. omega (arith, e)) ∙ h w q)
       (eq-or-lt_of_le {n = w} {m = v} (omega arith))
 
-  pub holds_more : (start v : ℕ) (f : ℕ → B) (now : List B) (x : B) → start + v < length now → x ≡ f v → Holds m start v f now → Holds m start (v + 1) f (set now (start + v) x)
-  holds_more start v f now x inside = each_more start v (λ w b. b ≡ f w) now x inside
+  -- ── a part of a list, written in its place ──
+
+  module _ (start k : ℕ) (before part : List B) (within : start + k ≤ length before) (long : length part ≡ k) where
+    taken : length (take start before) ≡ start
+    taken = length-take-le start before (omega arith)
+
+    pub part_was : (v : ℕ) → v < k → at m (take k (drop start before)) v ≡ at m before (start + v)
+    part_was v h = get_or-take k (drop start before) v m.opened h ∙ get_or-drop start before v m.opened
+
+    pub part_is : (v : ℕ) → v < k → at m (put_mid start k before part) (start + v) ≡ at m part v
+    part_is v h =
+        let e : (start + v) - start ≡ v = omega arith in
+        get_or-append_right (take start before) (part ++ drop k (drop start before)) start (start + v) m.opened taken (omega arith)
+        ∙ ap (at m (part ++ drop k (drop start before))) e ∙ get_or_append_left part (drop k (drop start before)) m.opened v (omega arith)
+
+    pub part_only : Only m start k before (put_mid start k before part)
+    part_only =
+        record {
+          below = λ i h. get_or_append_left (take start before) (part ++ drop k (drop start before)) m.opened i (omega (arith, taken)) ∙ get_or-take start before i m.opened h;
+          above = λ i h.
+              let e : start + (k + ((i - start) - k)) ≡ i = omega arith in
+              get_or-append_right (take start before) (part ++ drop k (drop start before)) start i m.opened taken (omega arith)
+              ∙ get_or-append_right part (drop k (drop start before)) k (i - start) m.opened long (omega arith)
+              ∙ get_or-drop k (drop start before) ((i - start) - k) m.opened ∙ get_or-drop start before (k + ((i - start) - k)) m.opened ∙ ap (at m before) e;
+        }
 
   -- the first rows are what the rule made of what stood there; the others and what lies beyond the table are as they were
   pub record Filled (side : ℕ) (P : ℕ → ℕ → B → B → Type 0) (rows : ℕ) (before now : List B) : Type 0 where

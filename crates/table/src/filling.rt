@@ -5,18 +5,18 @@ ghost use Rattle.table.specs.Cells.{at, cell, Beyond};
 use crate::cells::row_start;
 use bound::Bound;
 
-// Fills all places of a slice. By index, since what `iter_mut` wrote is not known afterwards.
+// Fills all places of a slice.
 pub fn fill_row<B: Bound, F: Fn(usize, B) -> B>(row: &mut [B], rule: F)
     requires { (v : ℕ) (held : B) → v < length row.old → F.pre rule v held }
     ensures len { length row.new ≡ length row.old }
     ensures row { (v : ℕ) → v < length row.old → F.post rule v (at B.meaning row.old v) (at B.meaning row.new v) }
 {
-    for v in 0..row.len() {
-        row[v] = rule(v, row[v]);
+    for (v, place) in row.iter_mut().enumerate() {
+        *place = rule(v, *place);
     }
 }
 
-// Fills the square table of that side at the front of the slice, row by row and by index as above.
+// Fills the square table of that side at the front of the slice, row by row.
 pub fn fill<B: Bound, F: Fn(usize, usize, B) -> B>(table: &mut [B], side: usize, rule: F)
     requires room { (side ≤ 27) × (side * side ≤ length table.old) }
     requires rule { (u v : ℕ) (held : B) → u < side → v < side → F.pre rule u v held }
@@ -25,8 +25,8 @@ pub fn fill<B: Bound, F: Fn(usize, usize, B) -> B>(table: &mut [B], side: usize,
 {
     for u in 0..side {
         let start = row_start(u, side);
-        for v in 0..side {
-            table[start + v] = rule(u, v, table[start + v]);
+        for (v, place) in table[start..start + side].iter_mut().enumerate() {
+            *place = rule(u, v, *place);
         }
     }
 }
