@@ -1,5 +1,5 @@
 -- What a board's state says of what it stands for. Assumes nothing.
-use Rattle.std.proofs.Common.{◌≡◌, List, sym, refl, ◌∙◌, subst}
+use Rattle.std.proofs.Common.{◌≡◌, List, sym, ◌∙◌, subst}
 use Rattle.bound.specs.Meaning.{Meaning}
 use Rattle.chart.specs.declared.types.Timers.{Timers}
 use Rattle.chart.specs.Charts.{Chart}
@@ -11,18 +11,7 @@ use Rattle.board.specs.declared.header.State.TheVariants.{Blank, Runs, Never}
 use Rattle.board.specs.Standing.{Standing, blank, charted}
 use Rattle.board.specs.Holding.{StateIs, Holds, StandsFor}
 
--- a state that is neither Blank nor Never
-pub only_runs : (s : State) → (s ≡ Blank → ⊥) → (s ≡ Never → ⊥) → s ≡ Runs
-only_runs Blank h k = absurd (h refl)
-only_runs Runs h k = refl
-only_runs Never h k = absurd (k refl)
-
 module _ {B : Type 0} (m : Meaning B) (h : Header) (table : List B) where
-  -- a Blank board stands for no chart
-  pub when_blank : h.state ≡ Blank → (P : Standing → Type 0) → P blank → (s : Standing) → StandsFor m h table s → P s
-  when_blank e P p blank st = p
-  when_blank e P p (charted n c) st = absurd (subst (λ x. StateIs m x n c table) e st.state)
-
   -- an opened board stands for a chart of its timers
   pub when_opened : (n : Timers) → h.timers ≡ n → (h.state ≡ Blank → ⊥) → (P : Standing → Type 0) → ((c : Chart) → Holds m h table n c → P (charted n c))
       → (s : Standing) → StandsFor m h table s → P s

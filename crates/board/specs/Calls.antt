@@ -1,5 +1,5 @@
 -- What each call on a board answers, by the charts of the boards. Assumes nothing.
-use Rattle.std.specs.Prelude.{◌≡◌, ℕ, ◌+◌, ◌*◌, ◌^◌, ◌≤◌, Bool, true, ◌⊎◌, ◌↔◌, List, [], ◌∷◌, ◌++◌, length, Ok, Err, Result}
+use Rattle.std.specs.Prelude.{◌≡◌, ℕ, ◌+◌, ◌*◌, ◌^◌, ◌≤◌, Bool, true, ◌⊎◌, ◌↔◌, List, [], ◌∷◌, ◌++◌, length, Some, None, Ok, Err, Option, Result}
 use Rattle.bound.specs.Differences.{Differences}
 use Rattle.bound.specs.Meaning.{Meaning}
 use Rattle.chart.specs.declared.types.MotionFault.{MotionFault}
@@ -12,8 +12,6 @@ use Rattle.runs.specs.Graph.{node, Tightest}
 use Rattle.runs.specs.Limits.{Name, NameOf, Sharp}
 use Rattle.runs.specs.Normal.{Normalised, IsLimit, Large}
 use Rattle.runs.specs.Claims.{FailsFirst}
-use Rattle.board.specs.declared.within.Within.{Within}
-use Rattle.board.specs.declared.within.Within.TheVariants.{Yes, No}
 use Rattle.board.specs.Standing.{Standing, blank, charted}
 
 -- ── Refusals ──
@@ -90,18 +88,18 @@ pub record FirstLooser {B : Type 0} (m : Meaning B) (n : ℕ) (c d : Chart) (l :
   pub other_sharp : (k : Name) → NameOf n k → Sharp m n d k (other k)
   pub first : FailsFirst m n limit other l
 
--- what within answers of two charts
-abbrev pub Compares : {B : Type 0} → Meaning B → ℕ → Chart → Chart → Within → Type 0
-Compares m n c d Yes = PairsWithin m.differences n c d
-Compares m n c d (No l) =
+-- what within answers of two charts: none where the first is within the second, else the first limit that is not tighter, or no_limit where the second never runs
+abbrev pub Compares : {B : Type 0} → Meaning B → ℕ → Chart → Chart → Option Name → Type 0
+Compares m n c d None = PairsWithin m.differences n c d
+Compares m n c d (Some l) =
     (PairsWithin m.differences n c d → ⊥) × HasRun m.differences n c
     × (((HasRun m.differences n d → ⊥) × (l ≡ no_limit)) ⊎ (HasRun m.differences n d × FirstLooser m n c d l))
 
-abbrev pub WithinIs : {B : Type 0} → Meaning B → Standing → Standing → Result Within BoardFault → Type 0
+abbrev pub WithinIs : {B : Type 0} → Meaning B → Standing → Standing → Result (Option Name) BoardFault → Type 0
 WithinIs m blank other r = r ≡ Err fault.Blank
 WithinIs m (charted n c) blank r = r ≡ Err fault.Blank
 WithinIs m (charted n c) (charted k d) r =
-    Needs r fault.Differ (n.count ≡ k.count) ((answer : Within) × (r ≡ Ok answer) × Compares m n.count c d answer)
+    Needs r fault.Differ (n.count ≡ k.count) ((answer : Option Name) × (r ≡ Ok answer) × Compares m n.count c d answer)
 
 -- ── Limit, span ──
 

@@ -7,6 +7,7 @@ use Rattle.faults.specs.declared.types.BoardFault.{BoardFault}
 use Rattle.faults.specs.declared.types.BoardFault.TheVariants as fault
 use Rattle.runs.specs.Graph as graph
 use Rattle.table.specs.Finds.{ChartTable}
+use Rattle.board.specs.declared.board.Board.{Board}
 use Rattle.board.specs.declared.header.Header.{Header}
 use Rattle.board.specs.declared.header.State.{State}
 use Rattle.board.specs.declared.header.State.TheVariants.{Blank, Runs, Never}
@@ -29,6 +30,10 @@ pub record Holds {B : Type 0} (m : Meaning B) (header : Header) (table : List B)
 abbrev pub StandsFor : {B : Type 0} → Meaning B → Header → List B → Standing → Type 0
 StandsFor m header table blank = header.state ≡ Blank
 StandsFor m header table (charted n c) = Holds m header table n c
+
+-- what a board stands for, by its header and its table
+abbrev pub Stands : {B : Type 0} → Meaning B → Board B → Standing → Type 0
+Stands m board s = StandsFor m board.header board.table.now s
 
 -- an opened board's timers, with a table of their places; else the board is Blank, or it has come by a table that is too short
 abbrev pub TimersAre : Header → (room : ℕ) → Result Timers BoardFault → Type 0

@@ -4,12 +4,11 @@ ghost use Rattle.board.specs.Standing.{Standing, blank, opened};
 ghost use Rattle.board.specs.Calls.{OpenIs, RunsIs, CountIs, WithinIs, LimitIs, SpanIs};
 ghost use Rattle.board.specs.Done.{MotionDone, JoinDone};
 ghost use Rattle.board.specs.Left.{TableLeft};
-ghost use Rattle.board.specs.Holding.{StandsFor, TimersAre};
+ghost use Rattle.board.specs.Holding.{Stands, TimersAre};
 
 use crate::board::Board;
-use crate::header::{BLANK, Header, State};
-use crate::within::Within;
-use crate::working::{places, work_join, work_motion, work_places};
+use crate::header::{Header, State};
+use crate::working::{TABLE, WORK, places, work_join, work_motion};
 use bound::Bound;
 use chart::{Timers, read_motion};
 use faults::BoardFault;
@@ -29,12 +28,12 @@ const NO_LIMIT: Name = Name {
 impl<'a, B: Bound> Board<'a, B> {
     // A board just made: Blank, on a table of any length and content, which stays as it is.
     pub fn new(table: &'a mut [B]) -> Self
-        ensures stands { StandsFor B.meaning result.header result.table.now blank }
+        ensures stands { Stands B.meaning result blank }
         ensures same { result.table.now ≡ table.old }
         ensures named { result.table.ghost_name ≡ table.entry.ghost_name }
     {
         Board {
-            header: BLANK,
+            header: Header::blank(),
             table,
         }
     }
@@ -44,11 +43,11 @@ impl<'a, B: Bound> Board<'a, B> {
     fn timers(&self) -> Result<Timers, BoardFault>
         ensures { TimersAre self.now.header (length self.now.table.now) result }
     {
-        if let State::Blank = self.header.state {
+        if self.header.state == State::Blank {
             return Err(BoardFault::Blank);
         }
         let timers = self.header.timers;
-        if self.table.len() < places(timers) {
+        if self.table.len() < places::<TABLE>(timers) {
             return Err(BoardFault::Table);
         }
         Ok(timers)
@@ -57,14 +56,12 @@ impl<'a, B: Bound> Board<'a, B> {
     // Makes the board one of `n` timers with the empty chart, in any state.
     pub fn open(&mut self, n: u8) -> Result<(), BoardFault>
         ensures answer { OpenIs (length self.old.table.now) n result }
-        ensures stands { (s : Standing) → StandsFor B.meaning self.old.header self.old.table.now s → StandsFor B.meaning self.new.header self.new.table.now (if is_ok result then opened n s else s) }
+        ensures stands { (s : Standing) → Stands B.meaning self.old s → Stands B.meaning self.new (if is_ok result then opened n s else s) }
         ensures table { (s : Standing) → TableLeft B.meaning (opened n s) self.old.table.now self.new.table.now result }
         ensures named { self.new.table.ghost_name ≡ self.old.table.ghost_name }
     {
-        let Some(timers) = Timers::new(n) else {
-            return Err(BoardFault::Timers);
-        };
-        if self.table.len() < places(timers) {
+        let timers = Timers::new(n).ok_or(BoardFault::Timers)?;
+        if self.table.len() < places::<TABLE>(timers) {
             return Err(BoardFault::Table);
         }
         table::empty(self.table, timers);
@@ -78,16 +75,15 @@ impl<'a, B: Bound> Board<'a, B> {
 
     // Adds the motion at the front of the bytes to the chart's end, and answers how many bytes it used.
     pub fn motion(&mut self, work: &mut [B], bytes: &[u8]) -> Result<usize, BoardFault>
-        ensures done { (s : Standing) → StandsFor B.meaning self.old.header self.old.table.now s → MotionDone B.meaning (length work.old) bytes.now self.new.header self.old.table.now self.new.table.now work.old work.new result s }
+        ensures done { (s : Standing) → Stands B.meaning self.old s → MotionDone B.meaning (length work.old) bytes.now self.new.header self.old.table.now self.new.table.now work.old work.new result s }
         ensures named { self.new.table.ghost_name ≡ self.old.table.ghost_name }
     {
         let timers = self.timers()?;
-        let needed = work_places(timers);
+        let needed = places::<WORK>(timers);
         if work.len() < needed {
             return Err(BoardFault::Work);
         }
-        let read = read_motion(bytes, timers)?;
-        let (motion, used) = read;
+        let (motion, used) = read_motion(bytes, timers)?;
         if self.header.count >= MOST_MOTIONS {
             return Err(BoardFault::Count);
         }
@@ -99,15 +95,15 @@ impl<'a, B: Bound> Board<'a, B> {
 
     // Adds the other board's chart after its own.
     pub fn join(&mut self, other: &Board<B>, work: &mut [B]) -> Result<(), BoardFault>
-        ensures done { (s t : Standing) → StandsFor B.meaning self.old.header self.old.table.now s → StandsFor B.meaning other.now.header other.now.table.now t → JoinDone B.meaning (length work.old) self.new.header self.old.table.now self.new.table.now work.old work.new result s t }
+        ensures done { (s t : Standing) → Stands B.meaning self.old s → Stands B.meaning other.now t → JoinDone B.meaning (length work.old) self.new.header self.old.table.now self.new.table.now work.old work.new result s t }
         ensures named { self.new.table.ghost_name ≡ self.old.table.ghost_name }
     {
         let timers = self.timers()?;
         let others = other.timers()?;
-        if timers.count != others.count {
+        if timers != others {
             return Err(BoardFault::Differ);
         }
-        let needed = work_places(timers);
+        let needed = places::<WORK>(timers);
         if work.len() < needed {
             return Err(BoardFault::Work);
         }
@@ -129,7 +125,7 @@ impl<'a, B: Bound> Board<'a, B> {
 
     // Whether the chart has a run.
     pub fn runs(&self) -> Result<bool, BoardFault>
-        ensures { (s : Standing) → StandsFor B.meaning self.now.header self.now.table.now s → RunsIs B.meaning s result }
+        ensures { (s : Standing) → Stands B.meaning self.now s → RunsIs B.meaning s result }
     {
         match self.header.state {
             State::Blank => Err(BoardFault::Blank),
@@ -140,7 +136,7 @@ impl<'a, B: Bound> Board<'a, B> {
 
     // The length of the chart.
     pub fn count(&self) -> Result<u32, BoardFault>
-        ensures { (s : Standing) → StandsFor B.meaning self.now.header self.now.table.now s → CountIs s result }
+        ensures { (s : Standing) → Stands B.meaning self.now s → CountIs s result }
     {
         match self.header.state {
             State::Blank => Err(BoardFault::Blank),
@@ -148,33 +144,31 @@ impl<'a, B: Bound> Board<'a, B> {
         }
     }
 
-    // Whether the other chart joins every pair of readings that this one joins.
-    pub fn within(&self, other: &Board<B>) -> Result<Within, BoardFault>
-        ensures { (s t : Standing) → StandsFor B.meaning self.now.header self.now.table.now s → StandsFor B.meaning other.now.header other.now.table.now t → WithinIs B.meaning s t result }
+    // None where the other chart joins every pair of readings that this one joins; else the first limit that is
+    // not tighter than the other's, or 0 0 0 0 where the other chart never runs.
+    pub fn within(&self, other: &Board<B>) -> Result<Option<Name>, BoardFault>
+        ensures { (s t : Standing) → Stands B.meaning self.now s → Stands B.meaning other.now t → WithinIs B.meaning s t result }
     {
         let timers = self.timers()?;
         let others = other.timers()?;
-        if timers.count != others.count {
+        if timers != others {
             return Err(BoardFault::Differ);
         }
-        if let State::Never = self.header.state {
-            return Ok(Within::Yes);
+        if self.header.state == State::Never {
+            return Ok(None);
         }
-        if let State::Never = other.header.state {
-            return Ok(Within::No(NO_LIMIT));
+        if other.header.state == State::Never {
+            return Ok(Some(NO_LIMIT));
         }
-        match table::first_looser_any(self.table, other.table, timers) {
-            None => Ok(Within::Yes),
-            Some(name) => Ok(Within::No(name)),
-        }
+        Ok(table::first_looser_any(self.table, other.table, timers))
     }
 
     // The limit under a name.
     pub fn limit(&self, name: Name) -> Result<B, BoardFault>
-        ensures { (s : Standing) → StandsFor B.meaning self.now.header self.now.table.now s → LimitIs B.meaning s name result }
+        ensures { (s : Standing) → Stands B.meaning self.now s → LimitIs B.meaning s name result }
     {
         let timers = self.timers()?;
-        if let State::Never = self.header.state {
+        if self.header.state == State::Never {
             return Err(BoardFault::Never);
         }
         if !table::is_name(name, timers) {
@@ -185,10 +179,10 @@ impl<'a, B: Bound> Board<'a, B> {
 
     // Two bounds together: the first is kept by the time of every run, the second by the negated time.
     pub fn span(&self) -> Result<(B, B), BoardFault>
-        ensures { (s : Standing) → StandsFor B.meaning self.now.header self.now.table.now s → SpanIs B.meaning s result }
+        ensures { (s : Standing) → Stands B.meaning self.now s → SpanIs B.meaning s result }
     {
         let timers = self.timers()?;
-        if let State::Never = self.header.state {
+        if self.header.state == State::Never {
             return Err(BoardFault::Never);
         }
         let n = timers.count as usize;

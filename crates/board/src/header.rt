@@ -1,4 +1,6 @@
 // A board's header: its state, its timers and its count.
+ghost use Rattle.std.specs.Prelude.{◌≡◌};
+
 use chart::Timers;
 
 // Blank until the first accepted open; then whether the chart has a run.
@@ -10,6 +12,7 @@ pub enum State {
 }
 
 // What a board knows beside its table. Nothing reads the timers and the count of a Blank board.
+// It stays plain, so that `settle` matches its state and the finding together, in place.
 #[derive(Clone, Copy)]
 pub struct Header {
     pub(crate) state: State,
@@ -17,11 +20,15 @@ pub struct Header {
     pub(crate) count: u32,
 }
 
-const UNREAD: Timers = Timers { count: 1 };
-
-// The header of a board just made.
-pub(crate) const BLANK: Header = Header {
-    state: State::Blank,
-    timers: UNREAD,
-    count: 0,
-};
+impl Header {
+    // The header of a board just made.
+    pub fn blank() -> Header
+        ensures { result.state ≡ State.Blank }
+    {
+        Header {
+            state: State::Blank,
+            timers: Timers { count: 1 },
+            count: 0,
+        }
+    }
+}

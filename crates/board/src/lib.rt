@@ -5,9 +5,7 @@ mod board;
 mod calls;
 mod header;
 mod settle;
-mod within;
 mod working;
 
 pub use board::Board;
 pub use header::{Header, State};
-pub use within::Within;

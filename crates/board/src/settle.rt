@@ -1,20 +1,12 @@
-// Headers: of a board just made, and what becomes of one when the chart grows.
+// What becomes of a header when the chart grows.
 ghost use Rattle.std.specs.Prelude.{◌≡◌, ◌+◌, ◌≤◌};
-ghost use Rattle.board.specs.declared.header.State.TheVariants.{Blank as blank_state};
 ghost use Rattle.board.specs.Settling.{settle_answer, settled_by};
 
-use crate::header::{BLANK, Header, State};
+use crate::header::{Header, State};
 use faults::BoardFault;
 use table::Found;
 
 impl Header {
-    // The header of a board just made.
-    pub fn blank() -> Header
-        ensures { result.state ≡ blank_state }
-    {
-        BLANK
-    }
-
     // By the board's own state and by what the working finds of a chart that is longer by `more` motions.
     pub(crate) fn settle(&mut self, found: Found, more: u32) -> Result<(), BoardFault>
         requires { self.old.count + more ≤ 1000000000 }

@@ -13,19 +13,17 @@ use joins::join_any;
 use motions::motion_any;
 use table::Found;
 
-// The places of a table for these timers.
-pub(crate) fn places(timers: Timers) -> usize
-    ensures { result ≡ table_places timers.count }
-{
-    let side = 2 * timers.count as usize + 2;
-    side * side
-}
+// How many times over a table, and a work table, has a row for now and for each timer.
+pub(crate) const TABLE: usize = 2;
 
-// The places of a work table for these timers.
-pub(crate) fn work_places(timers: Timers) -> usize
-    ensures { result ≡ work_places timers.count }
+pub(crate) const WORK: usize = 3;
+
+// The places of a square table with so many rows for now and for each of these timers.
+pub(crate) fn places<const TIMES: usize>(timers: Timers) -> usize
+    requires { TIMES ≤ 3 }
+    ensures { result ≡ (TIMES * timers.count + TIMES) * (TIMES * timers.count + TIMES) }
 {
-    let side = 3 * timers.count as usize + 3;
+    let side = TIMES * timers.count as usize + TIMES;
     side * side
 }
 
@@ -65,10 +63,8 @@ pub(crate) fn work_join<B: Bound>(
     ensures beyond { Beyond B.meaning (table_places timers.count) table.old table.new }
     ensures lent { Beyond B.meaning (work_places timers.count) work.old work.new }
 {
-    if let State::Runs = state {
-        if let State::Runs = others {
-            return join_any(table, other, work, timers);
-        }
+    match (state, others) {
+        (State::Runs, State::Runs) => join_any(table, other, work, timers),
+        _ => Found::Never,
     }
-    Found::Never
 }

@@ -1,12 +1,12 @@
 -- One call on one of some boards: the others stay, and the charts follow. Assumes nothing.
-use Rattle.std.proofs.Common.{◌≡◌, ℕ, ◌<◌, Bool, true, false, cond, ◌≢◌, List, [], map, length, get_or, set, is_ok, vec_items, Result, Vec, sym, refl, ap, ◌∙◌, subst, subst₂, inl, inr, arith, length-set, get_or-set_other, get_or-set_same}
+use Rattle.std.proofs.Common.{◌≡◌, ℕ, ◌<◌, Bool, true, false, cond, ◌≢◌, List, [], map, length, get_or, set, is_ok, vec_items, Option, Result, Vec, sym, refl, ap, ◌∙◌, subst, subst₂, inl, inr, arith, length-set, get_or-set_other, get_or-set_same}
 use native.Mathlib.Decide.{ℕ_discrete}
 use Rattle.std.proofs.lemmas.List.{length-map, map-set, get_or-map, set-get_or, set-set, set_comm}
 use Rattle.std.specs.declared.alloc.Global.{Global}
 use Rattle.bound.specs.Meaning.{Meaning}
 use Rattle.faults.specs.declared.types.BoardFault.{BoardFault}
 use Rattle.board.specs.declared.header.Header.{Header}
-use Rattle.board.specs.declared.within.Within.{Within}
+use Rattle.runs.specs.Limits.{Name}
 use Rattle.board.specs.Standing.{Standing, blank, opened, moved, joined}
 use Rattle.board.specs.Calls.{OpenIs, MotionIs, JoinIs, WithinIs}
 use Rattle.board.specs.Left.{TableLeft, WorkLeft}
@@ -221,7 +221,7 @@ module _ {B : Type 0} (m : Meaning B) where
         subst (λ (x : List (Slot B)). Step m (snapshot charts slots works) (snapshot (after charts (call.Join i j w) (is_ok r)) x (set works w work)) (call.Join i j w) (answer.Joined r)
         × AllOwn m x (after charts (call.Join i j w) (is_ok r))) (sym two_set) (joins_set w e work inside'' r done)
 
-    pub compares : (r : Result Within BoardFault) → Same (get_or slots i d) own → WithinIs m (standing charts i) (standing charts j) r
+    pub compares : (r : Result (Option Name) BoardFault) → Same (get_or slots i d) own → WithinIs m (standing charts i) (standing charts j) r
         → Step m (snapshot charts slots works) (snapshot (after charts (call.Within i j) (is_ok r)) (set (set (set slots i spare) j other) i own) works) (call.Within i j) (answer.Compared r)
         × AllOwn m (set (set (set slots i spare) j other) i own) (after charts (call.Within i j) (is_ok r))
     compares r still right =

@@ -1,9 +1,9 @@
 -- The promise about any sequence of calls on any boards of one kind: the charts follow from the calls' arguments and from which calls were
 -- accepted, and every call answers what the charts at its time say and leaves in the tables what they say. Assumes nothing.
-use Rattle.std.specs.Prelude.{◌≡◌, ℕ, ◌<◌, Bool, false, cond, ◌⊎◌, List, [], ◌∷◌, length, is_ok, vec_items, Result, ◌≢◌, slice_index_or, slice_set}
+use Rattle.std.specs.Prelude.{◌≡◌, ℕ, ◌<◌, Bool, false, cond, ◌⊎◌, List, [], ◌∷◌, length, is_ok, vec_items, Option, Result, ◌≢◌, slice_index_or, slice_set}
 use Rattle.bound.specs.Meaning.{Meaning}
 use Rattle.faults.specs.declared.types.BoardFault.{BoardFault}
-use Rattle.board.specs.declared.within.Within as compared
+use Rattle.runs.specs.Limits.{Name}
 use Rattle.board.specs.Standing.{Standing, blank, opened, moved, joined}
 use Rattle.board.specs.Calls.{OpenIs, MotionIs, JoinIs, RunsIs, CountIs, WithinIs, LimitIs, SpanIs}
 use Rattle.board.specs.Left.{TableLeft, WorkLeft}
@@ -109,7 +109,7 @@ module _ {B : Type 0} (m : Meaning B) (s t : Snapshot B) where
   Does (call.Join i j w) a = (r : Result (Unit {0}) BoardFault) × (a ≡ answer.Joined r) × Joins i j w r
   Does (call.Runs i) a = (r : Result Bool BoardFault) × (a ≡ answer.Runs r) × RunsIs m (standing s.charts i) r × Kept s t
   Does (call.Count i) a = (r : Result ℕ BoardFault) × (a ≡ answer.Counted r) × CountIs (standing s.charts i) r × Kept s t
-  Does (call.Within i j) a = (r : Result compared.Within BoardFault) × (a ≡ answer.Compared r) × WithinIs m (standing s.charts i) (standing s.charts j) r × Kept s t
+  Does (call.Within i j) a = (r : Result (Option Name) BoardFault) × (a ≡ answer.Compared r) × WithinIs m (standing s.charts i) (standing s.charts j) r × Kept s t
   Does (call.Limit i l) a = (r : Result B BoardFault) × (a ≡ answer.Limited r) × LimitIs m (standing s.charts i) l r × Kept s t
   Does (call.Span i) a = (r : Result (B × B) BoardFault) × (a ≡ answer.Spanned r) × SpanIs m (standing s.charts i) r × Kept s t
 

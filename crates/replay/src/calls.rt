@@ -1,5 +1,4 @@
 // Calls on some boards, as values, and their answers.
-use board::Within;
 use bound::Bound;
 use faults::BoardFault;
 use runs::Name;
@@ -47,7 +46,8 @@ pub enum Answer<B: Bound> {
     Joined(Result<(), BoardFault>),
     Runs(Result<bool, BoardFault>),
     Counted(Result<u32, BoardFault>),
-    Compared(Result<Within, BoardFault>),
+    // none where the first board's chart is within the other's, else the first limit that is not tighter
+    Compared(Result<Option<Name>, BoardFault>),
     Limited(Result<B, BoardFault>),
     Spanned(Result<(B, B), BoardFault>),
     // the call names a board or a work table that is not there, or one board twice

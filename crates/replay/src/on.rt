@@ -6,7 +6,7 @@ ghost use Rattle.board.specs.Left.{TableLeft};
 ghost use Rattle.board.specs.Done.{MotionDone, JoinDone};
 ghost use Rattle.board.specs.Holding.{StandsFor};
 
-use board::{Board, Header, Within};
+use board::{Board, Header};
 use bound::Bound;
 use faults::BoardFault;
 use runs::Name;
@@ -78,7 +78,7 @@ pub(crate) fn within_on<B: Bound>(
     table: &mut [B],
     others: Header,
     other: &mut [B],
-) -> Result<Within, BoardFault>
+) -> Result<Option<Name>, BoardFault>
     ensures answer { (s t : Standing) → StandsFor B.meaning header table.old s → StandsFor B.meaning others other.old t → WithinIs B.meaning s t result }
     ensures same { table.new ≡ table.old }
     ensures other { other.new ≡ other.old }

@@ -8,7 +8,7 @@ ghost use Rattle.replay.specs.Slots.{items, Owns, Same};
 
 use crate::on::{count_on, join_on, limit_on, motion_on, open_on, runs_on, span_on, within_on};
 use crate::slots::Slot;
-use board::{Header, Within};
+use board::Header;
 use bound::Bound;
 use faults::BoardFault;
 use runs::Name;
@@ -87,7 +87,7 @@ impl<B: Bound> Slot<B> {
         count_on(self.header, self.table.as_mut_slice())
     }
 
-    pub(crate) fn within(&mut self, other: &mut Slot<B>) -> Result<Within, BoardFault>
+    pub(crate) fn within(&mut self, other: &mut Slot<B>) -> Result<Option<Name>, BoardFault>
         ensures answer { (s t : Standing) → Owns B.meaning self.old s → Owns B.meaning other.old t → WithinIs B.meaning s t result }
         ensures same { Same self.old self.new }
         ensures other { Same other.old other.new }

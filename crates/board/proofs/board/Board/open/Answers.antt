@@ -1,36 +1,24 @@
-use Rattle.std.proofs.Common.{length, refl, arith, rules}
-use Rattle.board.proofs.Opening.{other_number, short_table, accepted, opened_stands, opened_table}
+use Rattle.std.proofs.Common.{◌≡◌, Some, None, arith}
+use Rattle.std.proofs.lemmas.Grind.{common_steps}
+use Rattle.std.proofs.lemmas.Result.{err_from_is_err_and}
+use Rattle.chart.specs.Ranges.{timers_of}
+use Rattle.faults.specs.declared.types.BoardFault.TheVariants as fault
+use Rattle.board.proofs.Opening.{other_number, short_table, accepted}
 use Rattle.board.proofs.board.Board.open.Goals as goal
 
-pub returns-in_default : goal.returns-in_default
-returns-in_default g c =
-    record {
-      answer = other_number (length c.args.self.now.table.now) c.args.n c.in_default.ensures;
-      stands = λ s st. st;
-      table = λ s. refl;
-      named = search rules;
-    }
+pub returns-in_err-timers-clause-answer : goal.returns-in_err-timers-clause-answer
+returns-in_err-timers-clause-answer g c =
+    let p = err_from_is_err_and c.from_residual.result c.from_residual.ensures.1 in
+    let is : None ≡ timers_of c.args.n = grind (arith, common_steps) in
+    let told : c.in_err-timers.field-0.0 ≡ fault.Timers = grind (arith, common_steps) in
+    rw (p.1, p.2, told) (other_number _ _ is)
 
-pub returns-then-self-places : goal.returns-then-self-places
-returns-then-self-places g c =
-    record {
-      answer = short_table (length c.args.self.now.table.now) c.args.n c.in-Some.timers c.in-Some.ensures (omega (arith, c.places.ensures));
-      stands = λ s st. st;
-      table = λ s. refl;
-      named = search rules;
-    }
+pub returns-then-self-places-clause-answer : goal.returns-then-self-places-clause-answer
+returns-then-self-places-clause-answer g c =
+    let is : Some c.in_ok-timers.timers ≡ timers_of c.args.n = grind (arith, common_steps) in
+    short_table _ _ _ is (omega (arith, c.places.ensures))
 
-pub returns : goal.returns
-returns g c =
-    let m = g.B.Bound.meaning in
-    let n = c.args.n in
-    let t = c.in-Some.timers in
-    let is = c.in-Some.ensures in
-    let before = c.args.self.now.table.now in
-    let after = c.empty.new.table in
-    record {
-      answer = accepted (length before) n t is (omega (arith, c.places.ensures));
-      stands = λ s _. opened_stands m n t is before after (omega (arith, c.places.ensures, c.empty.auto.table)) c.empty.ensures.its s;
-      table = opened_table m n t is before after (omega (arith, c.places.ensures, c.empty.auto.table)) c.empty.ensures.its c.empty.ensures.beyond;
-      named = search rules;
-    }
+pub returns-clause-answer : goal.returns-clause-answer
+returns-clause-answer g c =
+    let is : Some c.in_ok-timers.timers ≡ timers_of c.args.n = grind (arith, common_steps) in
+    accepted _ _ _ is (omega (arith, c.places.ensures))

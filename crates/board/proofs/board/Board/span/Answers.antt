@@ -1,30 +1,15 @@
-use Rattle.std.proofs.Common.{Ok, Err}
-use Rattle.faults.specs.declared.types.BoardFault.TheVariants as fault
-use Rattle.board.specs.Calls.{SpanIs}
-use Rattle.board.proofs.Standings.{only_runs, when_opened, has_table, has_chain}
-use Rattle.board.proofs.Telling.{span_told, span_refused}
+use Rattle.std.proofs.Common.{◌≡◌, rules, arith}
+use Rattle.std.proofs.lemmas.Grind.{common_steps}
+use Rattle.board.specs.declared.header.State.TheVariants.{Runs, Never}
+use Rattle.board.proofs.Telling.{span_never, span_told}
 use Rattle.board.proofs.board.Board.span.Goals as goal
 
-pub returns-in-Never : goal.returns-in-Never
-returns-in-Never g c =
-    let m = g.B.Bound.meaning in
-    let h = c.args.self.now.header in
-    let table = c.args.self.now.table.now in
-    let n = c.in_ok-timers.timers in
-    let t = c.in_ok-timers.ensures in
-    when_opened m h table n t.1 t.0 (λ s. SpanIs m s (Err fault.Never))
-    (λ chart holds. span_refused m g.met.B.Bound.lawful n chart (has_chain m h table n chart holds c.in-Never.is))
+pub returns-then-eq : goal.returns-then-eq
+returns-then-eq g c =
+    let is : c.args.self.now.header.state ≡ Never = search rules in
+    span_never g.B.Bound.meaning g.met.B.Bound.lawful _ _ _ c.in_ok-timers.ensures is
 
 pub returns : goal.returns
 returns g c =
-    let m = g.B.Bound.meaning in
-    let h = c.args.self.now.header in
-    let table = c.args.self.now.table.now in
-    let n = c.in_ok-timers.timers in
-    let t = c.in_ok-timers.ensures in
-    let most = c.read-most.result in
-    let least = c.read-least.result in
-    when_opened m h table n t.1 t.0 (λ s. SpanIs m s (Ok (most, least)))
-    (λ chart holds.
-    let its = has_table m h table n chart holds (only_runs h.state t.0 c.in_default.not-Never) in
-    span_told m g.met.B.Bound.lawful n chart table its most least c.read-most.ensures c.read-least.ensures)
+    let is : c.args.self.now.header.state ≡ Runs = grind (arith, common_steps, c.in_ok-timers.ensures) in
+    span_told g.B.Bound.meaning g.met.B.Bound.lawful _ _ _ c.in_ok-timers.ensures is _ _ c.read-most.ensures c.read-least.ensures
