@@ -1,5 +1,5 @@
 -- One call more, and boards made anew. Assumes nothing.
-use Rattle.std.proofs.Common.{◌≡◌, ℕ, ◌+◌, ◌<◌, ◌≤◌, List, [], ◌∷◌, ◌++◌, map, length, get_or, take, vec_items, Vec, sym, refl, ap, ◌∙◌, subst, subst₂, arith, take_all}
+use Rattle.std.proofs.Common.{◌≡◌, ℕ, ◌+◌, ◌<◌, ◌≤◌, List, [], ◌∷◌, ◌++◌, map, length, get_or, take, vec_items, Vec, sym, refl, ap, ◌∙◌, subst, subst₂, arith}
 use Rattle.std.proofs.lemmas.List.{take_more, length-map, get_or-map}
 use Rattle.std.specs.declared.alloc.Global.{Global}
 use Rattle.bound.specs.Meaning.{Meaning}
@@ -20,10 +20,6 @@ module _ {B : Type 0} (m : Meaning B) where
   lawful_push from mid to (d ∷ calls) (b ∷ answers) c a (next, first, l) step = (next, first, lawful_push next mid to calls answers c a l step)
 
   module _ (calls : List Call) (before : List (Slot B)) (works : List (Vec B Global)) where
-    pub none_made : (answers : List (Answer B)) → answers ≡ [] → ServesAll m (take 0 calls) answers before works before works
-    none_made answers e charts all =
-        (charts, subst (λ (x : List (Answer B)). Lawful m (snapshot charts before works) (take 0 calls) x (snapshot charts before works)) (sym e) refl, all)
-
     pub one_more : (i : ℕ) (d : Call) (slots next : List (Slot B)) (lent lent' : List (Vec B Global)) (answers more : List (Answer B)) (a : Answer B) → i < length calls → d ≡ get_or calls i d
         → more ≡ answers ++ a ∷ [] → ServesAll m (take i calls) answers before works slots lent → Serves m d a slots lent next lent' → ServesAll m (take (i + 1) calls) more before works next lent'
     one_more i d slots next lent lent' answers more a inside read pushed made serves charts all = go (made charts all)
@@ -39,10 +35,6 @@ module _ {B : Type 0} (m : Meaning B) where
                   (lawful_push (snapshot charts before works) (snapshot charts' slots lent) to (take i calls) answers d a lawful now.0),
               now.1,
             )
-
-    pub all_made : (i : ℕ) (slots : List (Slot B)) (lent : List (Vec B Global)) (answers : List (Answer B)) → length calls ≤ i → ServesAll m (take i calls) answers before works slots lent
-        → ServesAll m calls answers before works slots lent
-    all_made i slots lent answers past made = subst (λ (x : List Call). ServesAll m x answers before works slots lent) (take_all i calls past) made
 
   -- ── Boards made anew ──
 

@@ -1,5 +1,5 @@
 -- What is lent of a table, and the table when it is back. Assumes nothing.
-use Rattle.std.proofs.Common.{◌≡◌, ℕ, List, length, vec_items, vec_len, Result, Vec, sym, ◌∙◌, subst, subst₂}
+use Rattle.std.proofs.Common.{◌≡◌, List, length, vec_items, vec_len, Result, Vec, sym, subst, subst₂}
 use Rattle.std.specs.Vec.{with_items}
 use Rattle.std.specs.declared.alloc.Global.{Global}
 use Rattle.std.proofs.lemmas.List.{with_items_is}
@@ -7,17 +7,13 @@ use Rattle.bound.specs.Meaning.{Meaning}
 use Rattle.faults.specs.declared.types.BoardFault.{BoardFault}
 use Rattle.board.specs.declared.header.Header.{Header}
 use Rattle.board.specs.Standing.{Standing}
-use Rattle.board.specs.Done.{MotionDone, JoinDone}
+use Rattle.board.specs.Done.{JoinDone}
 use Rattle.board.specs.Holding.{StandsFor}
 
 module _ {B : Type 0} where
   -- the table holds what was lent of it
   pub back : (table : Vec B Global) (cells : List B) → length cells ≡ vec_len table → vec_items (with_items table cells) ≡ cells
   back table cells e = with_items_is table cells e
-
-  -- and what it held, if nothing was changed
-  pub unchanged : (table : Vec B Global) (lent cells : List B) → length cells ≡ vec_len table → cells ≡ lent → lent ≡ vec_items table → vec_items (with_items table cells) ≡ vec_items table
-  unchanged table lent cells e same is = back table cells e ∙ same ∙ is
 
 module _ {B : Type 0} (m : Meaning B) where
   -- what stands on a table stands on what is lent of it
@@ -26,12 +22,6 @@ module _ {B : Type 0} (m : Meaning B) where
 
   module _ (table work : Vec B Global) (lent cells lent' cells' : List B) (e : lent ≡ vec_items table) (e' : lent' ≡ vec_items work)
       (l : length cells ≡ vec_len table) (l' : length cells' ≡ vec_len work) (h : Header) where
-    pub motion_back : (bytes : List ℕ) (r : Result ℕ BoardFault) (s : Standing) → MotionDone m (length lent') bytes h lent cells lent' cells' r s
-        → MotionDone m (length (vec_items work)) bytes h (vec_items table) (vec_items (with_items table cells)) (vec_items work) (vec_items (with_items work cells')) r s
-    motion_back bytes r s d =
-        subst₂ (λ (x y : List B). MotionDone m (length (vec_items work)) bytes h (vec_items table) x (vec_items work) y r s) (sym (back table cells l)) (sym (back work cells' l'))
-        (subst₂ (λ (x y : List B). MotionDone m (length y) bytes h x cells y cells' r s) e e' d)
-
     pub join_back : (r : Result (Unit {0}) BoardFault) (s t : Standing) → JoinDone m (length lent') h lent cells lent' cells' r s t
         → JoinDone m (length (vec_items work)) h (vec_items table) (vec_items (with_items table cells)) (vec_items work) (vec_items (with_items work cells')) r s t
     join_back r s t d =

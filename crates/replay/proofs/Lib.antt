@@ -1,3 +1,4 @@
 pub mod Lent
+pub mod Parts
 pub mod Serving
 pub mod Histories

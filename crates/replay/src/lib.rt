@@ -2,8 +2,8 @@
 #![tactic(auto)]
 
 mod calls;
+mod lending;
 mod on;
-mod owned;
 mod run;
 mod slots;
 mod steps;

@@ -1,7 +1,9 @@
-// One call on a board that is resumed for it, on a header and a lent table.
+// Calls on a board that is resumed for them, on a header and a lent table.
 ghost use Rattle.std.specs.Prelude.{◌≡◌, length, is_ok, if◌then◌else◌};
+ghost use Rattle.std.specs.Fn.{FnOnceReturnsAt};
+ghost use Rattle.board.specs.declared.board.Board.{Board as BoardOf};
 ghost use Rattle.board.specs.Standing.{Standing, opened};
-ghost use Rattle.board.specs.Calls.{OpenIs, RunsIs, CountIs, WithinIs, LimitIs, SpanIs};
+ghost use Rattle.board.specs.Calls.{OpenIs, WithinIs};
 ghost use Rattle.board.specs.Left.{TableLeft};
 ghost use Rattle.board.specs.Done.{MotionDone, JoinDone};
 ghost use Rattle.board.specs.Holding.{StandsFor};
@@ -11,6 +13,21 @@ use bound::Bound;
 use faults::BoardFault;
 use runs::Name;
 
+// A call that changes nothing.
+pub(crate) fn read_on<B: Bound, R, F: FnOnce(&Board<'_, B>) -> R>(
+    header: Header,
+    table: &mut [B],
+    call: F,
+) -> R
+    requires { F.IsAlwaysCallable call }
+    ensures answer { (b : BoardOf B) × (b.header ≡ header) × (b.table.now ≡ table.old) × FnOnceReturnsAt F.FnOnce call b result }
+    ensures same { table.new ≡ table.old }
+{
+    call(&Board::resume(header, table))
+}
+
+// The calls below change a table or take two, and what a closure does to a table is not known after the call:
+// each has a function of its own.
 pub(crate) fn open_on<B: Bound>(
     header: &mut Header,
     table: &mut [B],
@@ -57,22 +74,6 @@ pub(crate) fn join_on<B: Bound>(
     r
 }
 
-pub(crate) fn runs_on<B: Bound>(header: Header, table: &mut [B]) -> Result<bool, BoardFault>
-    ensures answer { (s : Standing) → StandsFor B.meaning header table.old s → RunsIs B.meaning s result }
-    ensures same { table.new ≡ table.old }
-{
-    let board = Board::resume(header, table);
-    board.runs()
-}
-
-pub(crate) fn count_on<B: Bound>(header: Header, table: &mut [B]) -> Result<u32, BoardFault>
-    ensures answer { (s : Standing) → StandsFor B.meaning header table.old s → CountIs s result }
-    ensures same { table.new ≡ table.old }
-{
-    let board = Board::resume(header, table);
-    board.count()
-}
-
 pub(crate) fn within_on<B: Bound>(
     header: Header,
     table: &mut [B],
@@ -86,24 +87,4 @@ pub(crate) fn within_on<B: Bound>(
     let board = Board::resume(header, table);
     let second = Board::resume(others, other);
     board.within(&second)
-}
-
-pub(crate) fn limit_on<B: Bound>(
-    header: Header,
-    table: &mut [B],
-    name: Name,
-) -> Result<B, BoardFault>
-    ensures answer { (s : Standing) → StandsFor B.meaning header table.old s → LimitIs B.meaning s name result }
-    ensures same { table.new ≡ table.old }
-{
-    let board = Board::resume(header, table);
-    board.limit(name)
-}
-
-pub(crate) fn span_on<B: Bound>(header: Header, table: &mut [B]) -> Result<(B, B), BoardFault>
-    ensures answer { (s : Standing) → StandsFor B.meaning header table.old s → SpanIs B.meaning s result }
-    ensures same { table.new ≡ table.old }
-{
-    let board = Board::resume(header, table);
-    board.span()
 }

@@ -15,14 +15,13 @@ use std::alloc::{AllocError, Global};
 fn empty_all<B: Bound>(slots: &mut [Slot<B>])
     ensures { Emptied B.meaning slots.old slots.new }
 {
-    for i in 0..slots.len() {
-        slots[i].header = Header::blank();
+    for slot in slots.iter_mut() {
+        slot.header = Header::blank();
     }
 }
 
 // Makes all calls, in their order. There is room for their answers.
 fn run<B: Bound>(
-    heap: Global,
     slots: &mut [Slot<B>],
     works: &mut [Vec<B>],
     calls: &[Call],
@@ -31,8 +30,8 @@ fn run<B: Bound>(
     requires { (answers.old.items ≡ []) × (length calls.now ≤ vec_capacity answers.old) }
     ensures { ServesAll B.meaning calls.now answers.new.items slots.old works.old slots.new works.new }
 {
-    for i in 0..calls.len() {
-        let answer = step(heap, slots, works, &calls[i]);
+    for call in calls {
+        let answer = step(slots, works, call).unwrap_or(Answer::Absent);
         answers.push_reserved(answer);
     }
 }
@@ -51,6 +50,6 @@ pub fn replay<B: Bound>(
 {
     let mut answers = Vec::with_capacity(heap, calls.len())?;
     empty_all(slots);
-    run(heap, slots, works, calls, &mut answers);
+    run(slots, works, calls, &mut answers);
     Ok(answers)
 }

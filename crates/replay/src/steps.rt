@@ -1,124 +1,67 @@
 // One call on one of some boards.
-ghost use Rattle.std.specs.Prelude.{List, Vec as Vector};
-ghost use Rattle.std.specs.declared.alloc.Global.{Global as Heap};
+ghost use Rattle.std.specs.Prelude.{◌≢◌, ◌<◌, ◌↔◌, IsTrue, length, unwrap_or};
 ghost use Rattle.replay.specs.Slots.{Serves};
 
 use crate::calls::{Answer, Call};
+use crate::lending::{at, both};
 use crate::slots::Slot;
 use bound::Bound;
-use runs::Name;
-use std::alloc::Global;
-use std::mem;
 
-fn open_at<B: Bound>(slots: &mut [Slot<B>], i: usize, n: u8) -> Answer<B>
-    ensures { (works : List (Vector B Heap)) → Serves B.meaning (Call.Open i n) result slots.old works slots.new works }
+// Whether these are the places of two boards.
+fn are_two<B: Bound>(slots: &[Slot<B>], i: usize, j: usize) -> bool
+    ensures { IsTrue result ↔ ((i < length slots.now) × (j < length slots.now) × (i ≢ j)) }
 {
-    if i >= slots.len() {
-        return Answer::Absent;
-    }
-    Answer::Opened(slots[i].open(n))
+    i < slots.len() && j < slots.len() && i != j
 }
 
-fn motion_at<B: Bound>(
-    slots: &mut [Slot<B>],
-    works: &mut [Vec<B>],
-    i: usize,
-    w: usize,
-    bytes: &Vec<u8>,
-) -> Answer<B>
-    ensures { Serves B.meaning (Call.Motion i w bytes.now) result slots.old works.old slots.new works.new }
-{
-    if i >= slots.len() || w >= works.len() {
-        return Answer::Absent;
-    }
-    Answer::Moved(slots[i].motion(&mut works[w], bytes.as_slice()))
-}
-
-// The board is taken out of its place for the length of the call, so that two can be lent at once.
-fn join_at<B: Bound>(
-    heap: Global,
-    slots: &mut [Slot<B>],
-    works: &mut [Vec<B>],
-    i: usize,
-    j: usize,
-    w: usize,
-) -> Answer<B>
-    ensures { Serves B.meaning (Call.Join i j w) result slots.old works.old slots.new works.new }
-{
-    if i >= slots.len() || j >= slots.len() || i == j || w >= works.len() {
-        return Answer::Absent;
-    }
-    let mut own = mem::replace(&mut slots[i], Slot::new(Vec::new(heap)));
-    let r = own.join(&mut slots[j], &mut works[w]);
-    slots[i] = own;
-    Answer::Joined(r)
-}
-
-fn runs_at<B: Bound>(slots: &mut [Slot<B>], i: usize) -> Answer<B>
-    ensures { (works : List (Vector B Heap)) → Serves B.meaning (Call.Runs i) result slots.old works slots.new works }
-{
-    if i >= slots.len() {
-        return Answer::Absent;
-    }
-    Answer::Runs(slots[i].runs())
-}
-
-fn count_at<B: Bound>(slots: &mut [Slot<B>], i: usize) -> Answer<B>
-    ensures { (works : List (Vector B Heap)) → Serves B.meaning (Call.Count i) result slots.old works slots.new works }
-{
-    if i >= slots.len() {
-        return Answer::Absent;
-    }
-    Answer::Counted(slots[i].count())
-}
-
-fn within_at<B: Bound>(heap: Global, slots: &mut [Slot<B>], i: usize, j: usize) -> Answer<B>
-    ensures { (works : List (Vector B Heap)) → Serves B.meaning (Call.Within i j) result slots.old works slots.new works }
-{
-    if i >= slots.len() || j >= slots.len() || i == j {
-        return Answer::Absent;
-    }
-    let mut own = mem::replace(&mut slots[i], Slot::new(Vec::new(heap)));
-    let r = own.within(&mut slots[j]);
-    slots[i] = own;
-    Answer::Compared(r)
-}
-
-fn limit_at<B: Bound>(slots: &mut [Slot<B>], i: usize, l: Name) -> Answer<B>
-    ensures { (works : List (Vector B Heap)) → Serves B.meaning (Call.Limit i l) result slots.old works slots.new works }
-{
-    if i >= slots.len() {
-        return Answer::Absent;
-    }
-    Answer::Limited(slots[i].limit(l))
-}
-
-fn span_at<B: Bound>(slots: &mut [Slot<B>], i: usize) -> Answer<B>
-    ensures { (works : List (Vector B Heap)) → Serves B.meaning (Call.Span i) result slots.old works slots.new works }
-{
-    if i >= slots.len() {
-        return Answer::Absent;
-    }
-    Answer::Spanned(slots[i].span())
-}
-
-// Makes one call.
+// Makes one call, if there are the boards and the work table that it names, and two boards where it takes two.
 pub(crate) fn step<B: Bound>(
-    heap: Global,
     slots: &mut [Slot<B>],
     works: &mut [Vec<B>],
     call: &Call,
-) -> Answer<B>
-    ensures { Serves B.meaning call.now result slots.old works.old slots.new works.new }
+) -> Option<Answer<B>>
+    ensures { Serves B.meaning call.now (unwrap_or result Answer.Absent) slots.old works.old slots.new works.new }
 {
     match call {
-        Call::Open { board, timers } => open_at(slots, *board, *timers),
-        Call::Motion { board, work, bytes } => motion_at(slots, works, *board, *work, bytes),
-        Call::Join { board, other, work } => join_at(heap, slots, works, *board, *other, *work),
-        Call::Runs { board } => runs_at(slots, *board),
-        Call::Count { board } => count_at(slots, *board),
-        Call::Within { board, other } => within_at(heap, slots, *board, *other),
-        Call::Limit { board, name } => limit_at(slots, *board, *name),
-        Call::Span { board } => span_at(slots, *board),
+        Call::Open { board, timers } => {
+            let slot = at(slots, *board)?;
+            Some(Answer::Opened(slot.open(*timers)))
+        }
+        Call::Motion { board, work, bytes } => {
+            let slot = at(slots, *board)?;
+            let lent = at(works, *work)?;
+            Some(Answer::Moved(slot.motion(lent, bytes.as_slice())))
+        }
+        Call::Join { board, other, work } => {
+            if !are_two(slots, *board, *other) {
+                return None;
+            }
+            let lent = at(works, *work)?;
+            let (slot, second) = both(slots, *board, *other);
+            Some(Answer::Joined(slot.join(second, lent)))
+        }
+        Call::Runs { board } => {
+            let slot = at(slots, *board)?;
+            Some(Answer::Runs(slot.runs()))
+        }
+        Call::Count { board } => {
+            let slot = at(slots, *board)?;
+            Some(Answer::Counted(slot.count()))
+        }
+        Call::Within { board, other } => {
+            if !are_two(slots, *board, *other) {
+                return None;
+            }
+            let (slot, second) = both(slots, *board, *other);
+            Some(Answer::Compared(slot.within(second)))
+        }
+        Call::Limit { board, name } => {
+            let slot = at(slots, *board)?;
+            Some(Answer::Limited(slot.limit(*name)))
+        }
+        Call::Span { board } => {
+            let slot = at(slots, *board)?;
+            Some(Answer::Spanned(slot.span()))
+        }
     }
 }

@@ -1,44 +1,48 @@
-use Rattle.std.proofs.Common.{sym, subst}
-use Rattle.replay.specs.declared.calls.Call.{Call}
-use Rattle.replay.specs.Slots.{Serves}
+use Rattle.std.proofs.Common.{refl}
+use Rattle.replay.proofs.Serving.{serves_as, opens, moves, runs_told, counted, limited, spanned, joins, compares}
 use Rattle.replay.proofs.steps.step.Goals as goal
 
-pub returns-in-Open : goal.returns-in-Open
-returns-in-Open g c =
-    let Is : Call → Type 0 = λ x. Serves g.B.Bound.meaning x c.open_at.result c.args.slots.now c.args.works.now c.open_at.new.slots c.args.works.now in
-    subst Is (sym c.in-Open.is) (c.open_at.ensures c.args.works.now)
+pub returns-in_ok-slot-in-Open : goal.returns-in_ok-slot-in-Open
+returns-in_ok-slot-in-Open g c =
+    let slot = c.in_ok-slot-in-Open.ensures in
+    serves_as g.B.Bound.meaning _ _ _ _ _ _ _ c.in-Open.is (opens g.B.Bound.meaning _ _ _ _ _ (slot.inside.0 refl) slot.item _ _ c.open.ensures.answer c.open.ensures.stands c.open.ensures.table)
 
-pub returns-in-Motion : goal.returns-in-Motion
-returns-in-Motion g c =
-    let Is : Call → Type 0 = λ x. Serves g.B.Bound.meaning x c.motion_at.result c.args.slots.now c.args.works.now c.motion_at.new.slots c.motion_at.new.works in
-    subst Is (sym c.in-Motion.is) c.motion_at.ensures
+pub returns-in_ok-lent-in-Motion : goal.returns-in_ok-lent-in-Motion
+returns-in_ok-lent-in-Motion g c =
+    let slot = c.in_ok-slot-in-Motion.ensures in
+    let lent = c.in_ok-lent-in-Motion.ensures in
+    let done = rw c.as_slice.ensures.value at c.motion.ensures in
+    serves_as g.B.Bound.meaning _ _ _ _ _ _ _ c.in-Motion.is (moves g.B.Bound.meaning _ _ _ _ _ (slot.inside.0 refl) slot.item _ _ _ (lent.inside.0 refl) lent.item c.in-Motion.bytes _ done)
 
-pub returns-in-Join : goal.returns-in-Join
-returns-in-Join g c =
-    let Is : Call → Type 0 = λ x. Serves g.B.Bound.meaning x c.join_at.result c.args.slots.now c.args.works.now c.join_at.new.slots c.join_at.new.works in
-    subst Is (sym c.in-Join.is) c.join_at.ensures
+pub returns-in_ok-lent-in-Join : goal.returns-in_ok-lent-in-Join
+returns-in_ok-lent-in-Join g c =
+    let two = c.are_two.ensures.0 c.if-not-are_two.false in
+    let lent = c.in_ok-lent-in-Join.ensures in
+    let both = c.both-slot.ensures in
+    serves_as g.B.Bound.meaning _ _ _ _ _ _ _ c.in-Join.is (joins g.B.Bound.meaning _ _ _ _ _ _ _ _ two.0 two.1 two.2 both.first both.second c.join.ensures.same _ _ _ (lent.inside.0 refl) lent.item _ c.join.ensures.done)
 
-pub returns-in-Runs : goal.returns-in-Runs
-returns-in-Runs g c =
-    let Is : Call → Type 0 = λ x. Serves g.B.Bound.meaning x c.runs_at.result c.args.slots.now c.args.works.now c.runs_at.new.slots c.args.works.now in
-    subst Is (sym c.in-Runs.is) (c.runs_at.ensures c.args.works.now)
+pub returns-in_ok-slot-in-Runs : goal.returns-in_ok-slot-in-Runs
+returns-in_ok-slot-in-Runs g c =
+    let slot = c.in_ok-slot-in-Runs.ensures in
+    serves_as g.B.Bound.meaning _ _ _ _ _ _ _ c.in-Runs.is (runs_told g.B.Bound.meaning _ _ _ _ _ (slot.inside.0 refl) slot.item c.runs.ensures.same _ c.runs.ensures.answer)
 
-pub returns-in-Count : goal.returns-in-Count
-returns-in-Count g c =
-    let Is : Call → Type 0 = λ x. Serves g.B.Bound.meaning x c.count_at.result c.args.slots.now c.args.works.now c.count_at.new.slots c.args.works.now in
-    subst Is (sym c.in-Count.is) (c.count_at.ensures c.args.works.now)
+pub returns-in_ok-slot-in-Count : goal.returns-in_ok-slot-in-Count
+returns-in_ok-slot-in-Count g c =
+    let slot = c.in_ok-slot-in-Count.ensures in
+    serves_as g.B.Bound.meaning _ _ _ _ _ _ _ c.in-Count.is (counted g.B.Bound.meaning _ _ _ _ _ (slot.inside.0 refl) slot.item c.count.ensures.same _ c.count.ensures.answer)
 
-pub returns-in-Within : goal.returns-in-Within
-returns-in-Within g c =
-    let Is : Call → Type 0 = λ x. Serves g.B.Bound.meaning x c.within_at.result c.args.slots.now c.args.works.now c.within_at.new.slots c.args.works.now in
-    subst Is (sym c.in-Within.is) (c.within_at.ensures c.args.works.now)
+pub returns-else-not-are_two-2 : goal.returns-else-not-are_two-2
+returns-else-not-are_two-2 g c =
+    let two = c.are_two-in-Within.ensures.0 c.if-not-are_two-2.false in
+    let both = c.both-slot-in-Within.ensures in
+    serves_as g.B.Bound.meaning _ _ _ _ _ _ _ c.in-Within.is (compares g.B.Bound.meaning _ _ _ _ _ _ _ _ two.0 two.1 two.2 both.first both.second c.within.ensures.other _ c.within.ensures.same c.within.ensures.answer)
 
-pub returns-in-Limit : goal.returns-in-Limit
-returns-in-Limit g c =
-    let Is : Call → Type 0 = λ x. Serves g.B.Bound.meaning x c.limit_at.result c.args.slots.now c.args.works.now c.limit_at.new.slots c.args.works.now in
-    subst Is (sym c.in-Limit.is) (c.limit_at.ensures c.args.works.now)
+pub returns-in_ok-slot-in-Limit : goal.returns-in_ok-slot-in-Limit
+returns-in_ok-slot-in-Limit g c =
+    let slot = c.in_ok-slot-in-Limit.ensures in
+    serves_as g.B.Bound.meaning _ _ _ _ _ _ _ c.in-Limit.is (limited g.B.Bound.meaning _ _ _ _ _ (slot.inside.0 refl) slot.item c.limit.ensures.same _ _ c.limit.ensures.answer)
 
-pub returns-in-Span : goal.returns-in-Span
-returns-in-Span g c =
-    let Is : Call → Type 0 = λ x. Serves g.B.Bound.meaning x c.span_at.result c.args.slots.now c.args.works.now c.span_at.new.slots c.args.works.now in
-    subst Is (sym c.in-Span.is) (c.span_at.ensures c.args.works.now)
+pub returns-in_ok-slot-in-Span : goal.returns-in_ok-slot-in-Span
+returns-in_ok-slot-in-Span g c =
+    let slot = c.in_ok-slot-in-Span.ensures in
+    serves_as g.B.Bound.meaning _ _ _ _ _ _ _ c.in-Span.is (spanned g.B.Bound.meaning _ _ _ _ _ (slot.inside.0 refl) slot.item c.span.ensures.same _ c.span.ensures.answer)
