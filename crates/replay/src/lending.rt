@@ -3,7 +3,7 @@ ghost use Rattle.std.specs.Prelude.{◌↔◌, ◌≢◌, ◌<◌, ◌≡◌, Is
 ghost use Rattle.std.specs.Borrow.{sem};
 ghost use Rattle.replay.specs.Lending.{LendsAt, LendsBoth};
 
-// The element at a place, if there is one.
+// The element at a place, if there is one. The library's `get_mut` leaves no element known afterwards.
 pub(crate) fn at<T>(items: &mut [T], i: usize) -> Option<&mut T>
     ensures* writes_back { sem 𝓛 (LendsAt T.row items.entry i result) }
     ensures inside { IsSome result ↔ (i < length items.old) }
@@ -16,7 +16,8 @@ pub(crate) fn at<T>(items: &mut [T], i: usize) -> Option<&mut T>
     }
 }
 
-// The elements at two places.
+// The elements at two places. It answers no Option: the check follows no pair back to its slice where a
+// `None` is answered beside it.
 pub(crate) fn both<T>(items: &mut [T], i: usize, j: usize) -> (&mut T, &mut T)
     requires { (i < length items.old) × ((j < length items.old) × (i ≢ j)) }
     ensures* writes_back { sem 𝓛 (LendsBoth T.row items.entry i j result) }

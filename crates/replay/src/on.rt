@@ -26,8 +26,8 @@ pub(crate) fn read_on<B: Bound, R, F: FnOnce(&Board<'_, B>) -> R>(
     call(&Board::resume(header, table))
 }
 
-// The calls below change a table or take two, and what a closure does to a table is not known after the call:
-// each has a function of its own.
+// The calls below change a table or take two. As closures they were not proved: what an open leaves in its
+// table was not found from the closure's contract, and of a table that a closure captures nothing is known after.
 pub(crate) fn open_on<B: Bound>(
     header: &mut Header,
     table: &mut [B],
