@@ -1,4 +1,5 @@
 // The working of a motion and of a join, by the states of the boards: only charts that run are worked on.
+// As methods of Board both would need two clauses more, that the header and the lent slice stay.
 ghost use Rattle.std.specs.Prelude.{◌≡◌, ◌+◌, ◌*◌, ◌≤◌, [], ◌∷◌, ◌++◌, length};
 ghost use Rattle.chart.specs.Charts.{held as held_motion, MotionOf, Chart, ChartOf};
 ghost use Rattle.table.specs.Cells.{Beyond};
