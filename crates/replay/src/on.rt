@@ -1,4 +1,5 @@
-// Calls on a board that is resumed for them, on a header and a lent table.
+// Calls on a board that is resumed for them, on a header and a lent table. Not as methods of Slot: one that
+// lends its own table and resumes a board on it knows nothing of the table afterwards.
 ghost use Rattle.std.specs.Prelude.{◌≡◌, length, is_ok, if◌then◌else◌};
 ghost use Rattle.std.specs.Fn.{FnOnceReturnsAt};
 ghost use Rattle.board.specs.declared.board.Board.{Board as BoardOf};
