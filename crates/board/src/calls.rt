@@ -13,6 +13,7 @@ use bound::Bound;
 use chart::{Timers, read_motion};
 use faults::BoardFault;
 use runs::Name;
+use table::Table;
 
 // The longest chart that a board takes.
 const MOST_MOTIONS: u32 = 1_000_000_000;
@@ -160,7 +161,15 @@ impl<'a, B: Bound> Board<'a, B> {
         if other.header.state == State::Never {
             return Ok(Some(NO_LIMIT));
         }
-        Ok(table::first_looser_any(self.table, other.table, timers))
+        let own = Table {
+            cells: self.table,
+            timers,
+        };
+        let second = Table {
+            cells: other.table,
+            timers,
+        };
+        Ok(own.first_looser(&second))
     }
 
     // The limit under a name.
@@ -174,7 +183,11 @@ impl<'a, B: Bound> Board<'a, B> {
         if !table::is_name(name, timers) {
             return Err(BoardFault::Name);
         }
-        Ok(table::limit_any(self.table, timers, name))
+        let table = Table {
+            cells: self.table,
+            timers,
+        };
+        Ok(table.limit(name))
     }
 
     // Two bounds together: the first is kept by the time of every run, the second by the negated time.
@@ -185,10 +198,11 @@ impl<'a, B: Bound> Board<'a, B> {
         if self.header.state == State::Never {
             return Err(BoardFault::Never);
         }
-        let n = timers.count as usize;
-        let side = 2 * n + 2;
-        let most = table::read(self.table, side, n + 1, 0);
-        let least = table::read(self.table, side, 0, n + 1);
-        Ok((most, least))
+        let end = timers.count as usize + 1;
+        let table = Table {
+            cells: self.table,
+            timers,
+        };
+        Ok((table.read(end, 0), table.read(0, end)))
     }
 }

@@ -10,8 +10,8 @@ ghost use Rattle.board.specs.Holding.{StateIs};
 use crate::header::State;
 use bound::Bound;
 use chart::{Motion, Timers};
-use joins::join_any;
-use motions::motion_any;
+use joins::join;
+use motions::motion;
 use table::Found;
 
 // How many times over a table, and a work table, has a row for now and for each timer.
@@ -44,7 +44,7 @@ pub(crate) fn work_motion<B: Bound>(
     ensures lent { Beyond B.meaning (work_places timers.count) work.old work.new }
 {
     match state {
-        State::Runs => motion_any(table, work, timers, added),
+        State::Runs => motion(table, work, timers, added),
         _ => Found::Never,
     }
 }
@@ -65,7 +65,7 @@ pub(crate) fn work_join<B: Bound>(
     ensures lent { Beyond B.meaning (work_places timers.count) work.old work.new }
 {
     match (state, others) {
-        (State::Runs, State::Runs) => join_any(table, other, work, timers),
+        (State::Runs, State::Runs) => join(table, other, work, timers),
         _ => Found::Never,
     }
 }

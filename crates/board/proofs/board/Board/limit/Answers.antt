@@ -12,4 +12,4 @@ returns-then-eq g c =
 pub returns : goal.returns
 returns g c =
     let is : c.args.self.now.header.state ≡ Runs = grind (arith, common_steps, c.in_ok-timers.ensures) in
-    limit_told g.B.Bound.meaning g.met.B.Bound.lawful _ _ _ c.in_ok-timers.ensures is c.args.name (c.is_name.ensures.yes c.if-not-is_name.false) _ c.limit_any.ensures.is
+    limit_told g.B.Bound.meaning g.met.B.Bound.lawful _ _ _ c.in_ok-timers.ensures is c.args.name (c.is_name.ensures.yes c.if-not-is_name.false) _ c.limit.ensures.is

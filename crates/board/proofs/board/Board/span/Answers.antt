@@ -12,4 +12,4 @@ returns-then-eq g c =
 pub returns : goal.returns
 returns g c =
     let is : c.args.self.now.header.state ≡ Runs = grind (arith, common_steps, c.in_ok-timers.ensures) in
-    span_told g.B.Bound.meaning g.met.B.Bound.lawful _ _ _ c.in_ok-timers.ensures is _ _ c.read-most.ensures c.read-least.ensures
+    span_told g.B.Bound.meaning g.met.B.Bound.lawful _ _ _ c.in_ok-timers.ensures is _ _ c.read.ensures c.read-2.ensures

@@ -22,4 +22,4 @@ returns g c =
     let same : c.in_ok-timers.timers.count ≡ c.in_ok-others.others.count = search rules in
     let is : c.args.self.now.header.state ≡ Runs = grind (arith, common_steps, c.in_ok-timers.ensures) in
     let its : c.args.other.now.header.state ≡ Runs = grind (arith, common_steps, c.in_ok-others.ensures) in
-    within_told g.B.Bound.meaning g.met.B.Bound.lawful _ _ _ _ _ _ c.in_ok-timers.ensures c.in_ok-others.ensures same is its _ c.first_looser_any.ensures
+    within_told g.B.Bound.meaning g.met.B.Bound.lawful _ _ _ _ _ _ c.in_ok-timers.ensures c.in_ok-others.ensures same is its _ c.first_looser.ensures
