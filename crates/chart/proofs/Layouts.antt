@@ -2,6 +2,7 @@
 use Rattle.std.proofs.Common.{◌≡◌, ℕ, zero, suc, ◌+◌, ◌*◌, ◌/◌, ◌%◌, ◌^◌, ◌<◌, ◌≤◌, Bool, true, false, cond, eqb, ltb, leb, ◌⊎◌, List, [], ◌∷◌, ◌++◌, length, get_or, drop, Some, None, Ok, Err, Option, Result, sym, refl, ap, ◌∙◌, subst, inl, inr, ⊎_elim, append_assoc, le_trans, add-one, arith, length-append, get_or-drop, drop-cons}
 use Rattle.std.proofs.lemmas.Bool.{eqb-true, ltb-false, leb-false}
 use Rattle.std.proofs.lemmas.List.{drop-drop}
+use Rattle.std.proofs.lemmas.Nat.{le_bytes_4}
 use Rattle.std.specs.Result.{result_map_both}
 use Rattle.chart.specs.declared.types.Timers.{Timers}
 use Rattle.chart.specs.declared.types.Sign.{Sign}
@@ -50,29 +51,18 @@ signed_back t v at some most (Some g) w e =
     let q : made p.0 ≡ w = cc p.1 in
     (ap (λ (x : Window). Some x.sign) q, sym (ap (λ (x : Window). x.timer) q), sym (ap (λ (x : Window). x.number) q))
 
-low : (x m : ℕ) → x < 256 → (x + 256 * m) % 256 ≡ x
-low x m h = omega arith
-
-past_one : (x m : ℕ) → x < 256 → (x + 256 * m) / 256 ≡ m
-past_one x m h = omega arith
-
-past_two : (x m : ℕ) → x < 65536 → (x + 65536 * m) / 65536 ≡ m
-past_two x m h = omega arith
-
-past_three : (x m : ℕ) → x < 16777216 → (x + 16777216 * m) / 16777216 ≡ m
-past_three x m h = omega arith
-
 four_back : (a b c d : ℕ) → a < 256 → b < 256 → c < 256 → d < 256 → four_bytes (a + 256 * b + 65536 * c + 16777216 * d) ≡ a ∷ b ∷ c ∷ d ∷ []
 four_back a b c d ha hb hc hd =
     let n : ℕ = a + 256 * b + 65536 * c + 16777216 * d in
-    let n₁ : n ≡ a + 256 * (b + 256 * (c + 256 * d)) = omega arith in
-    let n₂ : n ≡ (a + 256 * b) + 65536 * (c + 256 * d) = omega arith in
-    let n₃ : n ≡ (a + 256 * b + 65536 * c) + 16777216 * d = omega arith in
-    let e₀ : n % 256 ≡ a = rw n₁ (low a (b + 256 * (c + 256 * d)) ha) in
-    let e₁ : n / 256 % 256 ≡ b = rw (n₁, past_one a (b + 256 * (c + 256 * d)) ha) (low b (c + 256 * d) hb) in
-    let e₂ : n / 65536 % 256 ≡ c = rw (n₂, past_two (a + 256 * b) (c + 256 * d) (omega arith)) (low c d hc) in
-    let e₃ : n / 16777216 ≡ d = rw n₃ (past_three (a + 256 * b + 65536 * c) d (omega arith)) in
-    cc
+    let top : n / 16777216 ≡ n / 16777216 % 256 = omega arith in
+    rw top (le_bytes_4 (a ∷ b ∷ c ∷ d ∷ []) n refl small (omega arith))
+  where
+    small : (i : ℕ) → get_or (a ∷ b ∷ c ∷ d ∷ []) i 0 < 256
+    small zero = ha
+    small (suc zero) = hb
+    small (suc (suc zero)) = hc
+    small (suc (suc (suc zero))) = hd
+    small (suc (suc (suc (suc i)))) = omega arith
 
 window_back : (n : Timers) (t s a b c d at : ℕ) (w : Window) → a < 256 → b < 256 → c < 256 → d < 256
     → window_by n t s (a + 256 * b + 65536 * c + 16777216 * d) at ≡ Ok w → (window_bytes w ≡ t ∷ s ∷ a ∷ b ∷ c ∷ d ∷ []) × (w.timer ≤ n.count)

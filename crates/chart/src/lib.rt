@@ -6,4 +6,4 @@ mod read;
 mod types;
 
 pub use read::read_motion;
-pub use types::{Motion, MotionFault, Sign, Timers, Window};
+pub use types::{Motion, MotionFault, NoSign, Sign, Timers, Window};

@@ -1,5 +1,6 @@
 // A motion read from bytes.
 ghost use Rattle.std.specs.Prelude.{◌≡◌, ℕ, ◌+◌, ◌≤◌, ◌↔◌, length, Ok};
+ghost use Rattle.std.specs.Option.{ok_or};
 ghost use Rattle.std.specs.Result.{result_map_both};
 ghost use Rattle.chart.specs.Charts.{Motion as AnyMotion, held, held_with, restarts_timer};
 ghost use Rattle.chart.specs.Laid.{Laid};
@@ -7,22 +8,26 @@ ghost use Rattle.chart.specs.Ranges.{timers_of};
 ghost use Rattle.chart.specs.Reading.{sign_of, window_at, motion_of};
 
 use crate::bytes::u32_at;
-use crate::types::{Motion, MotionFault, Sign, Timers, Window};
+use crate::types::{Motion, MotionFault, NoSign, Sign, Timers, Window};
 
 const MOST_WINDOWS: u8 = 16;
 
 const MOST_NUMBER: u32 = 1_000_000_000;
 
-fn sign_of(byte: u8) -> Option<Sign>
-    ensures { result ≡ sign_of byte }
-{
-    match byte {
-        1 => Some(Sign::AtMost),
-        2 => Some(Sign::Under),
-        3 => Some(Sign::AtLeast),
-        4 => Some(Sign::Over),
-        5 => Some(Sign::Equal),
-        _ => None,
+impl TryFrom<u8> for Sign {
+    type Error = NoSign;
+
+    ghost try_from_gives = { λ byte r. r ≡ ok_or (sign_of byte) (record { 0 = byte }) };
+
+    fn try_from(byte: u8) -> Result<Sign, NoSign> {
+        match byte {
+            1 => Ok(Sign::AtMost),
+            2 => Ok(Sign::Under),
+            3 => Ok(Sign::AtLeast),
+            4 => Ok(Sign::Over),
+            5 => Ok(Sign::Equal),
+            _ => Err(NoSign(byte)),
+        }
     }
 }
 
@@ -36,7 +41,7 @@ fn window_at(bytes: &[u8], at: u8, timers: Timers) -> Result<Window, MotionFault
     if timer == 0 || timer > timers.count {
         return Err(MotionFault::Timer(at));
     }
-    let Some(sign) = sign_of(bytes[start + 1]) else {
+    let Ok(sign) = Sign::try_from(bytes[start + 1]) else {
         return Err(MotionFault::Sign(at + 1));
     };
     let number = u32_at(bytes, start + 2);
@@ -60,14 +65,12 @@ const FILLER: Window = Window {
 fn motion_of(bytes: &[u8], timers: Timers) -> Result<(Motion, usize), MotionFault>
     ensures { result_map_both held_with (λ e. e) result ≡ motion_of timers bytes.now }
 {
-    if bytes.len() < 2 {
+    let [count, restarts, ..] = *bytes else {
         return Err(MotionFault::Cut);
-    }
-    let count = bytes[0];
+    };
     if count > MOST_WINDOWS {
         return Err(MotionFault::Windows);
     }
-    let restarts = bytes[1];
     if restarts as u32 >= 1u32 << timers.count {
         return Err(MotionFault::Restart);
     }
@@ -76,6 +79,7 @@ fn motion_of(bytes: &[u8], timers: Timers) -> Result<(Motion, usize), MotionFaul
         return Err(MotionFault::Cut);
     }
     let mut slots = [FILLER; 16];
+    // k gives the slot and the place in the bytes, which a fault names: zipped with the slots this is no shorter.
     for k in 0..count {
         slots[k as usize] = window_at(bytes, 2 + 6 * k, timers)?;
     }

@@ -19,6 +19,10 @@ pub enum Sign {
     Equal,
 }
 
+// A byte that stands for no sign.
+#[derive(Clone, Copy, PartialEq, Eq, Debug)]
+pub struct NoSign(pub u8);
+
 // A demand on one timer's value (a guard).
 #[derive(Clone, Copy, PartialEq, Eq, Debug)]
 pub struct Window {
@@ -32,7 +36,7 @@ pub struct Window {
 
 // One motion (a transition): the windows that must hold after its wait, and the timers that it
 // then restarts (resets). It lies in fixed memory: the first `count` of `slots` are its windows.
-// Bit i − 1 of `restarts` stands for timer i.
+// Bit i − 1 of `restarts` stands for timer i. A motion is Copy, which an `ArrayVec` of windows is not.
 #[derive(Clone, Copy, Debug)]
 pub struct Motion {
     pub(crate) slots: [Window; 16],
