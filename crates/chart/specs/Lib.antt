@@ -4,3 +4,4 @@ pub mod Ranges
 pub mod Charts
 pub mod Reading
 pub mod Laid
+pub mod Words

@@ -4,6 +4,7 @@
 pub mod bytes;
 mod read;
 mod types;
+mod words;
 
 pub use read::read_motion;
 pub use types::{Motion, MotionFault, NoSign, Sign, Timers, Window};

@@ -1,6 +1,8 @@
 // The parts of a chart: timers, signs, windows, motions, and the faults of a motion's bytes.
 ghost use Rattle.std.specs.Prelude.{◌≤◌};
 
+use thiserror::Error;
+
 // How many timers (clocks) a machine has: 1 to 8. They are numbered from 1.
 #[derive(Clone, Copy, PartialEq, Eq, Debug)]
 pub struct Timers {
@@ -20,7 +22,8 @@ pub enum Sign {
 }
 
 // A byte that stands for no sign.
-#[derive(Clone, Copy, PartialEq, Eq, Debug)]
+#[derive(Clone, Copy, PartialEq, Eq, Debug, Error)]
+#[error("no sign is written as {0}")]
 pub struct NoSign(pub u8);
 
 // A demand on one timer's value (a guard).
@@ -46,18 +49,22 @@ pub struct Motion {
 }
 
 // Why a motion's bytes are refused. A byte counts from the motion's first, which is 0.
-#[derive(Clone, Copy, PartialEq, Eq, Debug)]
+#[derive(Clone, Copy, PartialEq, Eq, Debug, Error)]
 pub enum MotionFault {
     // fewer than 2 bytes, or windows cut off
+    #[error("the motion is cut off")]
     Cut,
-    // more than 16 windows
+    #[error("a motion has at most 16 windows")]
     Windows,
-    // a restart of a timer that the machine does not have
+    #[error("a timer is restarted that the chart does not have")]
     Restart,
-    // a window's timer that the machine does not have, at this byte
+    // at this byte
+    #[error("a window is on a timer that the chart does not have")]
     Timer(u8),
-    // no sign, at this byte
+    // at this byte
+    #[error("a window's sign is not 1 to 5")]
     Sign(u8),
-    // a number over 1,000,000,000, at this byte and the three after it
+    // at this byte and the three after it
+    #[error("a window's number is over 1,000,000,000")]
     Number(u8),
 }
