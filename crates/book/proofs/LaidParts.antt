@@ -21,8 +21,9 @@ use Rattle.book.specs.declared.head.Kind.{Kind}
 use Rattle.book.specs.declared.head.Kind.TheVariants.{Tick, Edge}
 use Rattle.book.specs.declared.head.Head.{Head}
 use Rattle.book.specs.Layout.{place_of}
-use Rattle.book.specs.Parts.{kind_of, head_by, head_of, onward, motions_from, chart_by, chart_of, part_count, count_by, count_of, kind_byte, PartOf, Counts, at_chart}
-use Rattle.book.proofs.Motions.{motions_end, motions_step, small_after, head_long}
+use Rattle.book.specs.Kinds.{kind_of, kind_byte}
+use Rattle.book.specs.Parts.{head_by, head_of, onward, motions_from, chart_by, chart_of, part_count, count_by, count_of, PartOf, Counts, at_chart}
+use Rattle.book.proofs.Counting.{motions_end, motions_step, small_after, head_long}
 
 onward_back : (k at : ℕ) (r : Result (Motion × ℕ) MotionFault) (rest : ℕ → Result Chart AtMotion) (ms : Chart) → onward k at r rest ≡ Ok ms
     → (m : Motion) × (used : ℕ) × (ns : Chart) × (r ≡ Ok (m, used)) × (rest used ≡ Ok ns) × (ms ≡ m ∷ ns)
@@ -151,17 +152,6 @@ part_read part small h ms l =
 count_back : (r : Result (Head × Chart) ChartFault) (c : ℕ) → result_map_both {T = Head × Chart} (λ p. length p.1) (λ e. e) r ≡ Ok c → (h : Head) × (ms : Chart) × (r ≡ Ok (h, ms)) × (c ≡ length ms)
 count_back (Err e) c q = absurd (grind arith)
 count_back (Ok p) c q = let z : length p.1 ≡ c = cc in (p.0, p.1, refl, sym z)
-
--- a chart's fault in a book
-pub in_book : (k start : ℕ) (r : Result ℕ ChartFault) → result_map_both (λ c. c) book.Chart (result_map_both (λ c. c) (at_chart k start) r) ≡ result_map_both (λ c. c) (λ e. book.Chart (at_chart k start e)) r
-in_book k start (Ok c) = refl
-in_book k start (Err e) = refl
-
-pub by_part : (bytes : List ℕ) (k start size : ℕ) (r : Result ℕ ChartFault) → Ok (start, size) ≡ place_of bytes k → r ≡ part_count (take (start + size - start) (drop start bytes))
-    → result_map_both (λ c. c) (λ e. book.Chart (at_chart k start e)) r ≡ count_of bytes k
-by_part bytes k start size r e f =
-    let s : start + size - start ≡ size = omega arith in
-    ap (result_map_both (λ (c : ℕ). c) (λ (x : ChartFault). book.Chart (at_chart k start x))) (f ∙ ap (λ (n : ℕ). part_count (take n (drop start bytes))) s) ∙ ap (count_by bytes k) e
 
 plain_back : (f : ChartFault → BookFault) (r : Result ℕ ChartFault) (c : ℕ) → result_map_both (λ x. x) f r ≡ Ok c → r ≡ Ok c
 plain_back f (Ok x) c e = cc

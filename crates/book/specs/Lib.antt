@@ -1,2 +1,4 @@
+pub mod Kinds
 pub mod Layout
 pub mod Parts
+pub mod Reads

@@ -1,5 +1,5 @@
 -- What is read of a chart's part: its head and its motions, or the first fault. Assumes nothing.
-use Rattle.std.specs.Prelude.{◌≡◌, ℕ, zero, suc, ◌+◌, cond, List, [], ◌∷◌, length, take, drop, Some, None, Ok, Err, Option, Result, ◌==◌, nat_le, nat_lt, slice_index}
+use Rattle.std.specs.Prelude.{◌≡◌, ℕ, zero, suc, ◌+◌, cond, List, [], ◌∷◌, length, take, drop, Some, None, Ok, Err, Option, Result, nat_le, nat_lt, slice_index}
 use Rattle.std.specs.Result.{result_map_both}
 use Rattle.chart.specs.declared.types.Timers.{Timers}
 use Rattle.chart.specs.declared.types.MotionFault.{MotionFault}
@@ -16,13 +16,9 @@ use Rattle.faults.specs.declared.types.ChartFault.TheVariants as chart
 use Rattle.faults.specs.declared.types.BookFault.{BookFault}
 use Rattle.faults.specs.declared.types.BookFault.TheVariants as book
 use Rattle.book.specs.declared.head.Kind.{Kind}
-use Rattle.book.specs.declared.head.Kind.TheVariants.{Tick, Edge}
 use Rattle.book.specs.declared.head.Head.{Head}
+use Rattle.book.specs.Kinds.{kind_of, kind_byte}
 use Rattle.book.specs.Layout.{place_of, handed}
-
--- kind 1 is Tick, kind 2 is Edge
-abbrev pub kind_of : ℕ → Option Kind
-kind_of byte = cond (byte == 1) (Some Tick) (cond (byte == 2) (Some Edge) None)
 
 abbrev pub head_by : Option Kind → Option Timers → Result Head ChartFault
 head_by None timers = Err chart.Kind
@@ -32,10 +28,6 @@ head_by (Some k) (Some t) = Ok (record { kind = k; timers = t })
 -- a part's first two bytes: kind, timers
 abbrev pub head_of : List ℕ → Result Head ChartFault
 head_of part = cond (nat_lt (length part) 2) (Err chart.Short) (head_by (kind_of (slice_index part 0)) (timers_of (slice_index part 1)))
-
--- how many bytes the motion at the front uses
-abbrev pub used_by : Timers → List ℕ → Result ℕ BoardFault
-used_by n bytes = result_map_both (λ p. p.1) board.Motion (motion_of n bytes)
 
 -- a fault with its place
 abbrev pub at_motion : (motion byte : ℕ) → BoardFault → AtMotion
@@ -74,10 +66,6 @@ count_by bytes k (Ok (start, size)) = result_map_both (λ c. c) (λ e. book.Char
 
 abbrev pub count_of : List ℕ → ℕ → Result ℕ BookFault
 count_of bytes k = count_by bytes k (place_of bytes k)
-
-abbrev pub kind_byte : Kind → ℕ
-kind_byte Tick = 1
-kind_byte Edge = 2
 
 -- the bytes of a part are those of a chart: kind, timers, and then its motions to the end
 pub record PartOf (part : List ℕ) (head : Head) (motions : Chart) : Type 0 where

@@ -46,6 +46,7 @@ fn checked(book: &[u8]) -> Result<u16, BookFault>
     if book.len() < least {
         return Err(BookFault::Cut);
     }
+    // A fault names k, and `place` reads one pair by its number: in chunks of eight bytes this is no shorter.
     for k in 0..count {
         let place = pair(book, k);
         if place.offset < least {
@@ -85,7 +86,5 @@ pub fn chart(book: &[u8], number: u16) -> Result<&[u8], BookFault>
     ensures place { IfOk result (λ p. p.ref_ptr ≡ (book.entry.ref_ptr.0, book.entry.ref_ptr.1 + offset book.now (number - 1))) }
 {
     let place = place(book, number)?;
-    let start = place.offset;
-    let end = start + place.size;
-    Ok(&book[start..end])
+    Ok(&book[place.offset..place.offset + place.size])
 }

@@ -4,8 +4,11 @@
 mod head;
 mod layout;
 mod part;
+mod reading;
+mod types;
 
 pub use faults::{AtChart, AtMotion, BoardFault, BookFault, ChartFault, Fault};
-pub use head::{Head, Kind};
+pub use head::{Head, Kind, NoKind};
 pub use layout::{chart, charts};
-pub use part::{count_motions, head_of};
+pub use part::{count_motions, head_of, motions};
+pub use types::{Motions, Numbered};

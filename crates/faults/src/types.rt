@@ -5,34 +5,41 @@ ghost use Rattle.faults.specs.declared.types.ChartFault.TheVariants.{Board as of
 ghost use Rattle.faults.specs.declared.types.BookFault.TheVariants.{Chart as of_chart};
 
 use chart::MotionFault;
+use thiserror::Error;
 
 // Why a board refuses a call.
-#[derive(Clone, Copy, PartialEq, Eq, Debug)]
+#[derive(Clone, Copy, PartialEq, Eq, Debug, Error)]
 pub enum BoardFault {
-    // the board, or the other board, is Blank
+    #[error("the board, or the other board, is blank")]
     Blank,
     // open with timers not 1 to 8
+    #[error("a board has 1 to 8 timers")]
     Timers,
-    // the board's table is too short
+    #[error("the board's table is too short")]
     Table,
-    // the two boards' timers differ in number
+    #[error("the two boards differ in their number of timers")]
     Differ,
-    // the work table is too short
+    #[error("the work table is too short")]
     Work,
     // the count would pass 1,000,000,000
+    #[error("a chart on a board has at most 1,000,000,000 motions")]
     Count,
-    // a size in the new normalised table is above 2^40
+    // a size in the new normalised table
+    #[error("a size in the chart's new table is above 2^40")]
     Size,
     // limit or span of a Never board
+    #[error("a board whose chart never runs has no limit and no span")]
     Never,
-    // not a limit's name
+    #[error("this is not a limit's name")]
     Name,
     // the bytes given hold no lawful motion
+    #[error(transparent)]
     Motion(MotionFault),
 }
 
 // A board's fault at a motion of a chart. Motions count from 1, bytes from the part's first.
-#[derive(Clone, Copy, PartialEq, Eq, Debug)]
+#[derive(Clone, Copy, PartialEq, Eq, Debug, Error)]
+#[error("{fault}")]
 pub struct AtMotion {
     pub motion: u32,
     pub byte: u32,
@@ -40,20 +47,23 @@ pub struct AtMotion {
 }
 
 // Why a chart's part is refused.
-#[derive(Clone, Copy, PartialEq, Eq, Debug)]
+#[derive(Clone, Copy, PartialEq, Eq, Debug, Error)]
 pub enum ChartFault {
-    // fewer than 2 bytes
+    #[error("a chart's part has at least 2 bytes")]
     Short,
     // no kind has this byte
+    #[error("the kind is neither 1 (Tick) nor 2 (Edge)")]
     Kind,
-    // not 1 to 8 timers
+    #[error("a chart has 1 to 8 timers")]
     Timers,
     // a motion is refused
+    #[error(transparent)]
     Board(AtMotion),
 }
 
 // A chart's fault in a book. Charts count from 1; the part begins at this byte of the book.
-#[derive(Clone, Copy, PartialEq, Eq, Debug)]
+#[derive(Clone, Copy, PartialEq, Eq, Debug, Error)]
+#[error("{fault}")]
 pub struct AtChart {
     pub chart: u16,
     pub part: u32,
@@ -61,21 +71,24 @@ pub struct AtChart {
 }
 
 // Why a book is refused. Pairs count from 0.
-#[derive(Clone, Copy, PartialEq, Eq, Debug)]
+#[derive(Clone, Copy, PartialEq, Eq, Debug, Error)]
 pub enum BookFault {
-    // under 2 or over 65,536 bytes
+    #[error("a book has 2 to 65,536 bytes")]
     Length,
-    // no charts, or over 64
+    #[error("a book has 1 to 64 charts")]
     Count,
-    // the book ends inside the pairs
+    #[error("the book ends inside the pairs that say where its charts lie")]
     Cut,
-    // a pair's offset below the end of the pairs or of the part before
+    // this pair's offset
+    #[error("a part begins before the end of the pairs or of the part before")]
     Early(u16),
-    // a pair's offset plus length past the book
+    // this pair's offset plus length
+    #[error("a part reaches past the end of the book")]
     Late(u16),
-    // no chart of the number asked for
+    #[error("the book has no chart of this number")]
     Missing,
     // a chart is refused
+    #[error(transparent)]
     Chart(AtChart),
 }
 

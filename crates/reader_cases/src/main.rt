@@ -3,99 +3,109 @@
 // A token ends in `*n` where it stands n times. `stdout` has what the rules give.
 #![tactic(auto)]
 
-use faults::BookFault;
+ghost use Rattle.std.specs.Prelude.{◌<◌, IfOk};
+
+use faults::{BookFault, Fault};
 use std::alloc::{AllocError, Global};
 use std::io;
+use thiserror::Error;
 
-fn nibble(c: u8) -> Option<u8> {
+// Why a line spells no book.
+#[derive(Debug, Drop, Error)]
+enum NoBook {
+    #[error("is no hexadecimal")]
+    Spelling,
+    #[error(transparent)]
+    Memory(#[from(alloc)] AllocError),
+}
+
+// Only small letters: `char::to_digit` and the crate `hex` would take capital ones too.
+fn nibble(c: u8) -> Result<u8, NoBook>
+    ensures { IfOk result (λ n. n < 16) }
+{
     match c {
-        b'0'..=b'9' => Some(c - b'0'),
-        b'a'..=b'f' => Some(c - b'a' + 10),
-        _ => None,
+        b'0'..=b'9' => Ok(c - b'0'),
+        b'a'..=b'f' => Ok(c - b'a' + 10),
+        _ => Err(NoBook::Spelling),
     }
 }
 
-// Appends the bytes of one hexadecimal string; false where it is none.
-fn push_hex(book: &mut Vec<u8>, hex: &[u8]) -> Result<bool, AllocError> {
+// Appends the bytes of one hexadecimal string.
+fn push_hex(book: &mut Vec<u8>, hex: &[u8]) -> Result<(), NoBook> {
     for pair in hex.chunks(2) {
-        let [a, b] = pair else {
-            return Ok(false);
+        let [high, low] = *pair else {
+            return Err(NoBook::Spelling);
         };
-        let Some(high) = nibble(*a) else {
-            return Ok(false);
-        };
-        let Some(low) = nibble(*b) else {
-            return Ok(false);
-        };
-        book.push(high.wrapping_mul(16) | low)?;
-    }
-    Ok(true)
-}
-
-fn push_token(book: &mut Vec<u8>, token: &str) -> Result<bool, AllocError> {
-    let Some((hex, times)) = token.split_once('*') else {
-        return push_hex(book, token.as_bytes());
-    };
-    let Ok(times) = times.parse::<u32>() else {
-        return Ok(false);
-    };
-    for _ in 0..times {
-        if !push_hex(book, hex.as_bytes())? {
-            return Ok(false);
-        }
-    }
-    Ok(true)
-}
-
-// The book that a line's tokens spell, or none.
-fn spelled(heap: Global, tokens: &str) -> Result<Option<Vec<u8>>, AllocError> {
-    let mut book = Vec::new(heap);
-    for token in tokens.split_whitespace() {
-        if !push_token(&mut book, token)? {
-            return Ok(None);
-        }
-    }
-    Ok(Some(book))
-}
-
-fn print_fault(rt: &HostRuntime, fault: BookFault) -> io::Result<()> {
-    let f = fault.told();
-    let number = f.number;
-    let level = f.level;
-    let chart = f.chart;
-    let motion = f.motion;
-    let byte = f.byte;
-    println!(rt; " fault {number} {level} {chart} {motion} {byte}")
-}
-
-fn print_chart(rt: &HostRuntime, name: &str, book: &[u8], number: u16) -> io::Result<()> {
-    print!(rt; "{name} {number}")?;
-    match book::count_motions(book, number) {
-        Ok(count) => println!(rt; " count {count}"),
-        Err(fault) => print_fault(rt, fault),
-    }
-}
-
-fn print_charts(rt: &HostRuntime, name: &str, book: &[u8], count: u16) -> io::Result<()> {
-    for k in 0..count {
-        print_chart(rt, name, book, k + 1)?;
+        book.push(nibble(high)? * 16 + nibble(low)?)?;
     }
     Ok(())
 }
 
-fn print_book(rt: &HostRuntime, name: &str, book: &[u8]) -> io::Result<()> {
-    match book::charts(book) {
-        Ok(count) => {
-            print_charts(rt, name, book, count)?;
-            if name.starts_with("ask-") {
-                print_chart(rt, name, book, 0)?;
-                print_chart(rt, name, book, count.saturating_add(1))?;
-            }
-            Ok(())
+fn push_token(book: &mut Vec<u8>, token: &str) -> Result<(), NoBook> {
+    let Some((hex, times)) = token.split_once('*') else {
+        return push_hex(book, token.as_bytes());
+    };
+    let times = times.parse::<u32>().map_err(|_| NoBook::Spelling)?;
+    for _ in 0..times {
+        push_hex(book, hex.as_bytes())?;
+    }
+    Ok(())
+}
+
+// The book that a line's tokens spell.
+fn spelled(heap: Global, tokens: &str) -> Result<Vec<u8>, NoBook> {
+    let mut book = Vec::new(heap);
+    for token in tokens.split_whitespace() {
+        push_token(&mut book, token)?;
+    }
+    Ok(book)
+}
+
+fn print_fault(rt: &HostRuntime, fault: BookFault) -> io::Result<()> {
+    let Fault {
+        number,
+        level,
+        chart,
+        motion,
+        byte,
+    } = fault.into();
+    println!(rt; " fault {number} {level} {chart} {motion} {byte}")
+}
+
+// A book with the name that its lines of output begin with.
+#[derive(Clone, Copy)]
+struct Case<'a> {
+    name: &'a str,
+    book: &'a [u8],
+}
+
+impl<'a> Case<'a> {
+    fn print_chart(&self, rt: &HostRuntime, number: u16) -> io::Result<()> {
+        let name = self.name;
+        print!(rt; "{name} {number}")?;
+        match book::count_motions(self.book, number) {
+            Ok(count) => println!(rt; " count {count}"),
+            Err(fault) => print_fault(rt, fault),
         }
-        Err(fault) => {
-            print!(rt; "{name}")?;
-            print_fault(rt, fault)
+    }
+
+    fn print(&self, rt: &HostRuntime) -> io::Result<()> {
+        let name = self.name;
+        match book::charts(self.book) {
+            Ok(count) => {
+                for number in 1..=count {
+                    self.print_chart(rt, number)?;
+                }
+                if name.starts_with("ask-") {
+                    self.print_chart(rt, 0)?;
+                    self.print_chart(rt, count.saturating_add(1))?;
+                }
+                Ok(())
+            }
+            Err(fault) => {
+                print!(rt; "{name}")?;
+                print_fault(rt, fault)
+            }
         }
     }
 }
@@ -104,13 +114,17 @@ fn print_line(rt: &HostRuntime, line: &str) -> io::Result<()> {
     if line.is_empty() || line.starts_with('#') {
         return Ok(());
     }
-    let (name, tokens) = match line.split_once(' ') {
-        Some(parts) => parts,
-        None => (line, ""),
-    };
-    match spelled(rt.alloc(), tokens)? {
-        Some(book) => print_book(rt, name, book.as_slice()),
-        None => println!(rt; "{name} is no hexadecimal"),
+    let (name, tokens) = line.split_once(' ').unwrap_or((line, ""));
+    match spelled(rt.alloc(), tokens) {
+        Ok(book) => {
+            let case = Case {
+                name,
+                book: book.as_slice(),
+            };
+            case.print(rt)
+        }
+        Err(NoBook::Memory(e)) => Err(e.into()),
+        Err(fault) => println!(rt; "{name} {fault}"),
     }
 }
 

@@ -1,14 +1,15 @@
-use Rattle.std.proofs.Common.{ℕ, ap, ◌∙◌}
-use Rattle.std.specs.Result.{result_map_both}
+use Rattle.std.proofs.Common.{Ok, Err}
 use Rattle.std.proofs.lemmas.Result.{err_from_is_err_and}
-use Rattle.faults.specs.declared.types.BookFault.TheVariants.{Chart}
-use Rattle.book.proofs.LaidParts.{in_book, by_part}
+use Rattle.book.specs.Reads.{coming}
+use Rattle.book.proofs.Counting.{all_counted}
 use Rattle.book.proofs.part.counted.Goals as goal
 
-pub returns-in_err-count : goal.returns-in_err-count
-returns-in_err-count c =
-    let k = c.args.number in
-    let start = c.in_ok-place.place.offset in
-    let p = err_from_is_err_and c.from_residual-in_err-count.result c.from_residual-in_err-count.ensures.1 in
-    rw (p.1, p.2) (ap (result_map_both (λ (n : ℕ). n) Chart) c.in_err-count.ensures ∙ in_book k start c.part_count.result
-    ∙ by_part c.args.book.now k start c.in_ok-place.place.size c.part_count.result c.in_ok-place.ensures.value c.part_count.ensures)
+pub returns-in_err-motion-items : goal.returns-in_err-motion-items
+returns-in_err-motion-items c =
+    let p = err_from_is_err_and c.from_residual.result c.from_residual.ensures.1 in
+    rw (p.1, p.2) (all_counted c.args.book.now c.args.number (Err c.in_err-motion-items.field-0.0) c.in_err-motion-items.ensures)
+
+pub loop-motion-init : goal.loop-motion-init
+loop-motion-init c =
+    let m = c.in_ok-motion-items.motion-items in
+    (tt, tt, rw c.into_iter-motion-iterator.ensures.into_iter_gives (all_counted c.args.book.now c.args.number (Ok (m.head, coming m)) c.in_ok-motion-items.ensures))
