@@ -100,7 +100,7 @@ pub fn read_motion(bytes: &[u8], timers: Timers) -> Result<(Motion, usize), Moti
 }
 
 impl Timers {
-    // That many timers, where a machine may have so many.
+    // That many timers, where a machine may have so many. As with `NonZero::new`, None says all: no error type.
     pub fn new(count: u8) -> Option<Timers>
         ensures { result ≡ timers_of count }
     {

@@ -117,7 +117,7 @@ impl From<AtChart> for BookFault {
 }
 
 // A fault told by five numbers, with 0 where there is none. The level is the row of the table of
-// refusals: 1 book, 2 chart, 3 motion, 4 board, 5 sheet.
+// refusals: 1 book, 2 chart, 3 motion, 4 board, 5 sheet. Plain numbers, since users and C are to read them.
 #[derive(Clone, Copy, PartialEq, Eq, Debug)]
 pub struct Fault {
     pub number: u64,
