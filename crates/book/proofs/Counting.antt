@@ -14,7 +14,7 @@ use Rattle.faults.specs.declared.types.BookFault.{BookFault}
 use Rattle.book.specs.declared.head.Head.{Head}
 use Rattle.book.specs.Layout.{place_of}
 use Rattle.book.specs.Parts.{head_of, at_motion, onward, motions_from, chart_by, count_by, count_of}
-use Rattle.book.specs.Reads.{Read, first, reads_from, in_chart, in_book, opened, opened_at, motions_of}
+use Rattle.book.specs.Reads.{Read, first, reads_from, placed, in_chart, in_book, opened, opened_at, motions_of}
 
 pub motions_end : (most : ℕ) (n : Timers) (part : List ℕ) (at k : ℕ) → length part ≤ at → motions_from most n part at k ≡ Ok []
 unfolding motions_from
@@ -128,3 +128,18 @@ module _ (c start : ℕ) (n : Timers) (part : List ℕ) where
     coming_err e q =
         ap (map (in_book c start)) (reads_step (length part - k) n part at k (omega arith) inside (Err e) q)
         ∙ ap (λ (xs : List (Read BookFault)). Err (in_chart c start (Board (at_motion (k + 1) at (board.Motion e)))) ∷ xs) (sym (coming_end (length part) k (omega arith)))
+
+    -- the same, from what comes next
+    pub coming_next : (m : Motion) (used : ℕ) → placed k at (motion_of n (drop at part)) ≡ Ok (m, used) → coming_at at k ≡ Ok (k + 1, m) ∷ coming_at (at + used) (k + 1)
+    coming_next m used = go (motion_of n (drop at part)) refl
+      where
+        go : (r : Result (Motion × ℕ) MotionFault) → motion_of n (drop at part) ≡ r → placed k at r ≡ Ok (m, used) → coming_at at k ≡ Ok (k + 1, m) ∷ coming_at (at + used) (k + 1)
+        go (Ok p) e q = coming_ok m used (e ∙ cc)
+        go (Err f) e q = let z : ◌≡◌ {A = ℕ} 0 1 = cc in absurd (omega arith)
+
+    pub coming_fault : (f : ChartFault) → placed k at (motion_of n (drop at part)) ≡ Err f → coming_at at k ≡ Err (in_chart c start f) ∷ coming_at (length part) k
+    coming_fault f = go (motion_of n (drop at part)) refl
+      where
+        go : (r : Result (Motion × ℕ) MotionFault) → motion_of n (drop at part) ≡ r → placed k at r ≡ Err f → coming_at at k ≡ Err (in_chart c start f) ∷ coming_at (length part) k
+        go (Ok p) e q = let z : ◌≡◌ {A = ℕ} 0 1 = cc in absurd (omega arith)
+        go (Err g) e q = let same : Board (at_motion (k + 1) at (board.Motion g)) ≡ f = cc in coming_err g e ∙ ap (λ (x : ChartFault). Err (in_chart c start x) ∷ coming_at (length part) k) same

@@ -48,6 +48,13 @@ in_chart c start e = book.Chart (at_chart c start e)
 abbrev pub in_book : (c start : ℕ) → Read AtMotion → Read BookFault
 in_book c start = result_map_both (λ x. x) (λ e. in_chart c start (chart.Board e))
 
+-- the motion that comes next and how many bytes it uses, or its fault, with its number and its place
+abbrev pub placed : (k at : ℕ) → Result (Motion × ℕ) MotionFault → Result (Motion × ℕ) ChartFault
+placed k at = result_map_both (λ x. x) (λ e. chart.Board (at_motion (k + 1) at (board.Motion e)))
+
+abbrev pub next_of : Motions → Result (Motion × ℕ) ChartFault
+next_of m = placed m.number m.at (motion_of m.head.timers (drop m.at m.part.now))
+
 -- what is still to come
 abbrev pub coming : Motions → List (Read BookFault)
 coming m = map (in_book m.chart m.start) (reads_from (length m.part.now - m.number) m.head.timers m.part.now m.at m.number)

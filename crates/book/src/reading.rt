@@ -1,13 +1,13 @@
 // The motions of a chart, one after the other.
-ghost use Rattle.std.specs.Prelude.{Some};
+ghost use Rattle.std.specs.Prelude.{◌≡◌, ◌<◌, Some, length};
 ghost use Rattle.std.specs.Iterator.{YieldsFirstBy, item_count};
 ghost use Rattle.std.specs.Result.{result_map_both};
-ghost use Rattle.chart.specs.Charts.{held};
-ghost use Rattle.book.specs.Reads.{numbered, motion_words, coming};
+ghost use Rattle.chart.specs.Charts.{held, held_with};
+ghost use Rattle.book.specs.Reads.{numbered, motion_words, next_of, coming};
 
 use crate::types::{Motions, Numbered};
-use chart::read_motion;
-use faults::{AtChart, AtMotion, BookFault};
+use chart::{Motion, read_motion};
+use faults::{AtChart, AtMotion, BookFault, ChartFault};
 use std::fmt;
 
 impl fmt::Display for Numbered {
@@ -20,6 +20,23 @@ impl fmt::Display for Numbered {
     }
 }
 
+impl<'a> Motions<'a> {
+    // The motion that comes next and how many bytes it uses, or its fault, with its number and its place.
+    fn read(&self) -> Result<(Motion, usize), ChartFault>
+        requires { self.now.at < length self.now.part.now }
+        ensures { result_map_both held_with (λ e. e) result ≡ next_of self.now }
+    {
+        let at = self.at;
+        let motion = self.number + 1;
+        let read = read_motion(&self.part[at..], self.head.timers).map_err(|fault| AtMotion {
+            motion,
+            byte: at as u32,
+            fault: fault.into(),
+        })?;
+        Ok(read)
+    }
+}
+
 impl<'a> Iterator for Motions<'a> {
     type Item = Result<Numbered, BookFault>;
 
@@ -28,29 +45,23 @@ impl<'a> Iterator for Motions<'a> {
     ghost remaining = { item_count coming };
 
     fn next(&mut self) -> Option<Result<Numbered, BookFault>> {
-        let part = self.part;
-        let at = self.at;
-        if at == part.len() {
+        let end = self.part.len();
+        if self.at == end {
             return None;
         }
         let number = self.number + 1;
-        match read_motion(&part[at..], self.head.timers) {
+        match self.read() {
             Ok((motion, used)) => {
-                self.at = at + used;
+                self.at += used;
                 self.number = number;
                 Some(Ok(Numbered { number, motion }))
             }
             Err(fault) => {
-                self.at = part.len();
-                let at_motion = AtMotion {
-                    motion: number,
-                    byte: at as u32,
-                    fault: fault.into(),
-                };
+                self.at = end;
                 let at_chart = AtChart {
                     chart: self.chart,
                     part: self.start,
-                    fault: at_motion.into(),
+                    fault,
                 };
                 Some(Err(at_chart.into()))
             }
