@@ -15,16 +15,15 @@ use motions::motion;
 use table::Found;
 
 // How many times over a table, and a work table, has a row for now and for each timer.
-pub(crate) const TABLE: usize = 2;
+pub(crate) const TABLE: u8 = 2;
 
-pub(crate) const WORK: usize = 3;
+pub(crate) const WORK: u8 = 3;
 
 // The places of a square table with so many rows for now and for each of these timers.
-pub(crate) fn places<const TIMES: usize>(timers: Timers) -> usize
-    requires { TIMES ≤ 3 }
+pub(crate) fn places<const TIMES: u8>(timers: Timers) -> usize
     ensures { result ≡ (TIMES * timers.count + TIMES) * (TIMES * timers.count + TIMES) }
 {
-    let side = TIMES * timers.count as usize + TIMES;
+    let side = TIMES as usize * timers.count as usize + TIMES as usize;
     side * side
 }
 
