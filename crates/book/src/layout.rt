@@ -10,7 +10,7 @@ const MOST_BYTES: usize = 65536;
 
 const MOST_CHARTS: u16 = 64;
 
-// Where a part begins, and how long it is.
+// Where a part begins, and how long it is. Not a `Range`, which is not Copy and has an end for a length.
 #[derive(Clone, Copy)]
 pub(crate) struct Extent {
     pub(crate) offset: usize,

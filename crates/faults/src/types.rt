@@ -92,6 +92,7 @@ pub enum BookFault {
     Chart(AtChart),
 }
 
+// Written out, since `#[from]` has no contract that says which fault it makes.
 impl From<MotionFault> for BoardFault {
     ghost from_gives = { λ e r. r ≡ of_motion e };
 
@@ -100,6 +101,7 @@ impl From<MotionFault> for BoardFault {
     }
 }
 
+// Written out, as above.
 impl From<AtMotion> for ChartFault {
     ghost from_gives = { λ e r. r ≡ of_board e };
 
@@ -108,6 +110,7 @@ impl From<AtMotion> for ChartFault {
     }
 }
 
+// Written out, as above.
 impl From<AtChart> for BookFault {
     ghost from_gives = { λ e r. r ≡ of_chart e };
 

@@ -128,7 +128,7 @@ impl<'a, B: Bound> Closed<'a, B> {
 // The table of two charts, the second after the first, in place of the first one's. Where the two tables are
 // those of charts, every sum is within the reach. The work table is left for the caller to clear.
 pub fn join<B: Bound>(table: &mut [B], other: &[B], work: &mut [B], timers: Timers) -> Found
-    requires { ((2 * timers.count + 2) * (2 * timers.count + 2) ≤ length table.old) × (((2 * timers.count + 2) * (2 * timers.count + 2) ≤ length other.now) × ((3 * timers.count + 3) * (3 * timers.count + 3) ≤ length work.old)) }
+    requires room { ((2 * timers.count + 2) * (2 * timers.count + 2) ≤ length table.old) × (((2 * timers.count + 2) * (2 * timers.count + 2) ≤ length other.now) × ((3 * timers.count + 3) * (3 * timers.count + 3) ≤ length work.old)) }
     ensures finds { (c d : Chart) → Good B.meaning.differences timers.count c (table_of B.meaning timers.count table.old) → Small B.meaning (2 * timers.count + 2) table.old → Good B.meaning.differences timers.count d (table_of B.meaning timers.count other.now) → Small B.meaning (2 * timers.count + 2) other.now → ChartOf timers.count d → Finds B.meaning timers.count (c ++ d) table.new result }
     ensures kept { Kept table.old table.new result }
     ensures beyond { Beyond B.meaning ((2 * timers.count + 2) * (2 * timers.count + 2)) table.old table.new }

@@ -1,22 +1,31 @@
 // The bounds between every node and the new now. They lie in the work table behind the direct bounds:
 // 2n + 2 on a date less the new now, then 2n + 2 on the new now less a date.
-ghost use Rattle.std.specs.Prelude.{◌≡◌, ◌+◌, ◌*◌, ◌<◌, ◌≤◌, length};
-ghost use Rattle.motions.specs.Star.{to_new, from_new, SpreadTo};
+ghost use Rattle.std.specs.Prelude.{◌≡◌, ℕ, ◌+◌, ◌*◌, ◌<◌, ◌≤◌, length};
+ghost use Rattle.motions.specs.Star.{best_of, to_new, from_new, SpreadTo};
 
 use bound::Bound;
-use table::{Table, fill_row, relax};
+use table::{Table, fill_row, pick, relax};
+
+// The tightest of `count` sums, each of what the two answer for its number.
+fn tightest<B: Bound, F: Fn(usize) -> B, G: Fn(usize) -> B>(count: usize, first: F, second: G) -> B
+    requires first { (i : ℕ) → i < count → F.pre first i }
+    requires second { (i : ℕ) → i < count → G.pre second i }
+    ensures { (f g : ℕ → B) → ((i : ℕ) (b : B) → i < count → F.post first i b → b ≡ f i) → ((i : ℕ) (b : B) → i < count → G.post second i b → b ≡ g i) → result ≡ best_of B.meaning f g count }
+{
+    let mut best = B::open();
+    for i in 0..count {
+        best = relax(best, first(i), second(i));
+    }
+    best
+}
 
 // The bound on date `u` less the new now.
 fn to_new<B: Bound>(table: &Table<B>, direct: &[B], u: usize) -> B
     requires { (u < 2 * table.now.timers.count + 2) × (2 * table.now.timers.count + 2 ≤ length direct.now) }
     ensures { result ≡ to_new B.meaning table.now.timers.count table.now.cells.now direct.now u }
 {
-    let n = table.timers.count as usize;
-    let mut best = B::open();
-    for i in 0..n + 1 {
-        best = relax(best, table.read(u, n + 1 + i), direct[i]);
-    }
-    best
+    let end = table.timers.count as usize + 1;
+    tightest(end, |i| table.read(u, end + i), |i| pick(direct, i))
 }
 
 // The bound on the new now less date `v`.
@@ -25,11 +34,7 @@ fn from_new<B: Bound>(table: &Table<B>, direct: &[B], v: usize) -> B
     ensures { result ≡ from_new B.meaning table.now.timers.count table.now.cells.now direct.now v }
 {
     let n = table.timers.count as usize;
-    let mut best = B::open();
-    for i in 0..n {
-        best = relax(best, direct[n + 2 + i], table.read(n + 2 + i, v));
-    }
-    best
+    tightest(n, |i| pick(direct, n + 2 + i), |i| table.read(n + 2 + i, v))
 }
 
 // All bounds between the nodes and the new now, from the direct ones at the front of the work table.

@@ -6,7 +6,8 @@ use crate::cells::read;
 use bound::Bound;
 use chart::Timers;
 
-// The table of a chart with these timers: (2n + 2)² places at the front of a slice, row by row.
+// The table of a chart with these timers: (2n + 2)² places at the front of a slice, row by row. What writes a
+// table takes the slice: a struct over a `&mut` has to promise in each method that it still lends the same one.
 #[derive(Drop)]
 pub struct Table<'a, B: Bound> {
     pub cells: &'a [B],
