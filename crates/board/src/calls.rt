@@ -13,7 +13,7 @@ use bound::Bound;
 use chart::{Timers, read_motion};
 use faults::BoardFault;
 use runs::Name;
-use table::Table;
+use table::{Table, TwoTables};
 
 // The longest chart that a board takes.
 const MOST_MOTIONS: u32 = 1_000_000_000;
@@ -161,15 +161,12 @@ impl<'a, B: Bound> Board<'a, B> {
         if other.header.state == State::Never {
             return Ok(Some(NO_LIMIT));
         }
-        let own = Table {
-            cells: self.table,
+        let tables = TwoTables {
+            first: self.table,
+            second: other.table,
             timers,
         };
-        let second = Table {
-            cells: other.table,
-            timers,
-        };
-        Ok(own.first_looser(&second))
+        Ok(tables.first_looser())
     }
 
     // The limit under a name.

@@ -78,6 +78,7 @@ mod tests {
         Edge::Number(c, Mark::Under)
     }
 
+    // The values and the answers are this kind's own, and so is the test.
     #[test]
     fn edges(rt: HostRuntime) {
         // strict, the number, what is written

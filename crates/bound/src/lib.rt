@@ -12,7 +12,8 @@ pub mod tick;
 pub trait Bound: Copy {
     ghost meaning: { Meaning Self };
 
-    // The bound "< c" if strict, else "≤ c"; none where c lies outside the range.
+    // The bound "< c" if strict, else "≤ c"; none where c lies outside the range. A flag, since a kind need not
+    // have marks.
     fn written(strict: bool, c: i64) -> Option<Self>
         ensures { result ≡ meaning.written strict c };
 

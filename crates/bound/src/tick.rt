@@ -58,6 +58,7 @@ mod tests {
 
     const REACH: i64 = 1_125_899_906_842_624;
 
+    // The values and the answers are this kind's own, and so is the test.
     #[test]
     fn ticks(rt: HostRuntime) {
         // strict, the number, what is written

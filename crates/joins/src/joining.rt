@@ -12,40 +12,38 @@ ghost use Rattle.joins.specs.Joins.{joined_cell, outer_cell, LargeIn, SmallIn};
 
 use bound::{Bound, allows_zero, keep_tighter};
 use chart::Timers;
-use table::{Found, MOST_SIZE, Table, fill, pivot, read};
+use table::{Found, MOST_SIZE, TwoTables, all_small, fill, pivot, read};
 
 // The bound in row `u` and column `v` of the two tables end to end, before any pivot.
-fn joined_cell<B: Bound>(table: &Table<B>, other: &Table<B>, u: usize, v: usize) -> B
-    requires same { other.now.timers.count ≡ table.now.timers.count }
-    requires inside { (u < 3 * table.now.timers.count + 3) × (v < 3 * table.now.timers.count + 3) }
-    ensures { result ≡ joined_cell B.meaning table.now.timers.count table.now.cells.now other.now.cells.now u v }
+fn joined_cell<B: Bound>(tables: &TwoTables<B>, u: usize, v: usize) -> B
+    requires { (u < 3 * tables.now.timers.count + 3) × (v < 3 * tables.now.timers.count + 3) }
+    ensures { result ≡ joined_cell B.meaning tables.now.timers.count tables.now.first.now tables.now.second.now u v }
 {
-    let middle = table.timers.count as usize + 1;
+    let middle = tables.timers.count as usize + 1;
     let side = 2 * middle;
     if u < middle || v < middle {
         return if u < side && v < side {
-            table.read(u, v)
+            read(tables.first, side, u, v)
         } else {
             B::open()
         };
     }
-    let later = other.read(u - middle, v - middle);
+    let later = read(tables.second, side, u - middle, v - middle);
     if u < side && v < side {
-        keep_tighter(table.read(u, v), later)
+        keep_tighter(read(tables.first, side, u, v), later)
     } else {
         later
     }
 }
 
 // The two tables end to end, in the work table.
-fn lay_out<B: Bound>(work: &mut [B], table: &Table<B>, other: &Table<B>)
-    requires same { other.now.timers.count ≡ table.now.timers.count }
-    requires room { (3 * table.now.timers.count + 3) * (3 * table.now.timers.count + 3) ≤ length work.old }
-    ensures cells { Rows B.meaning (3 * table.now.timers.count + 3) (3 * table.now.timers.count + 3) (joined_cell B.meaning table.now.timers.count table.now.cells.now other.now.cells.now) work.new }
-    ensures beyond { Beyond B.meaning ((3 * table.now.timers.count + 3) * (3 * table.now.timers.count + 3)) work.old work.new }
+fn lay_out<B: Bound>(work: &mut [B], tables: &TwoTables<B>)
+    requires { (3 * tables.now.timers.count + 3) * (3 * tables.now.timers.count + 3) ≤ length work.old }
+    ensures cells { Rows B.meaning (3 * tables.now.timers.count + 3) (3 * tables.now.timers.count + 3) (joined_cell B.meaning tables.now.timers.count tables.now.first.now tables.now.second.now) work.new }
+    ensures beyond { Beyond B.meaning ((3 * tables.now.timers.count + 3) * (3 * tables.now.timers.count + 3)) work.old work.new }
 {
-    let side = 3 * table.timers.count as usize + 3;
-    fill(work, side, |u, v, _| joined_cell(table, other, u, v));
+    let side = 3 * tables.timers.count as usize + 3;
+    fill(work, side, |u, v, _| joined_cell(tables, u, v));
 }
 
 // Pivots on the nodes between the two tables; with no size above 2^40 every sum is within the reach. False,
@@ -58,6 +56,7 @@ fn close<B: Bound>(work: &mut [B], timers: Timers) -> bool
 {
     let n = timers.count as usize;
     let side = 3 * n + 3;
+    // by node, which a pivot is told
     for k in 0..n + 1 {
         let p = n + 1 + k;
         if !allows_zero(read(work, side, p, p)) {
@@ -104,14 +103,7 @@ impl<'a, B: Bound> Closed<'a, B> {
         ensures large { result ≡ false → (u : ℕ) × (u < 2 * self.now.timers.count + 2) × LargeIn B.meaning self.now.timers.count self.now.work.now u }
     {
         let side = 2 * self.timers.count as usize + 2;
-        for u in 0..side {
-            for v in 0..side {
-                if self.outer(u, v).size() > MOST_SIZE {
-                    return false;
-                }
-            }
-        }
-        true
+        all_small(side, MOST_SIZE, |u, v| self.outer(u, v))
     }
 
     // The joined chart's table, out of the work table.
@@ -134,15 +126,12 @@ pub fn join<B: Bound>(table: &mut [B], other: &[B], work: &mut [B], timers: Time
     ensures beyond { Beyond B.meaning ((2 * timers.count + 2) * (2 * timers.count + 2)) table.old table.new }
     ensures lent { Beyond B.meaning ((3 * timers.count + 3) * (3 * timers.count + 3)) work.old work.new }
 {
-    let first = Table {
-        cells: table,
+    let tables = TwoTables {
+        first: table,
+        second: other,
         timers,
     };
-    let second = Table {
-        cells: other,
-        timers,
-    };
-    lay_out(work, &first, &second);
+    lay_out(work, &tables);
     if !close(work, timers) {
         return Found::Never;
     }

@@ -1,14 +1,12 @@
 -- The ways from the new now to a timer's date and back. Assumes nothing.
-use Rattle.std.proofs.Common.{◌≡◌, ℕ, ◌+◌, ◌*◌, ◌<◌, ◌≤◌, List, Some, None, Option, sym, refl, ap, ◌∙◌, subst₂, arith}
+use Rattle.std.proofs.Common.{◌≡◌, ℕ, ◌+◌, ◌*◌, ◌<◌, ◌≤◌, List, Some, None, Option, sym, refl, ap, subst₂, arith}
 use Rattle.bound.specs.Differences.{zero_of}
 use Rattle.bound.specs.Meaning.{Meaning, Laws, AllowsZero}
 use Rattle.runs.specs.Tables.{Sum}
 use Rattle.runs.proofs.Bounds.{sum_is}
-use Rattle.chart.specs.Charts.{Motion}
-use Rattle.runs.specs.Motions.{motion_name}
-use Rattle.table.specs.Cells.{at, cell}
+use Rattle.table.specs.Cells.{at}
 use Rattle.table.specs.Compared.{answered}
-use Rattle.motions.specs.Star.{TripAllows, StarFits, settled_cell, new_cell}
+use Rattle.motions.specs.Star.{TripAllows, StarFits}
 
 -- two bounds of the star have a sum within the reach
 pub two_fit : {B : Type 0} (m : Meaning B) (n : ℕ) (work : List B) → StarFits m n work → (i j : ℕ) → i < 6 * n + 6 → j < 6 * n + 6 → (a b : B) → a ≡ at m work i → b ≡ at m work j

@@ -13,6 +13,7 @@ fn tightest<B: Bound, F: Fn(usize) -> B, G: Fn(usize) -> B>(count: usize, first:
     ensures { (f g : ℕ → B) → ((i : ℕ) (b : B) → i < count → F.post first i b → b ≡ f i) → ((i : ℕ) (b : B) → i < count → G.post second i b → b ≡ g i) → result ≡ best_of B.meaning f g count }
 {
     let mut best = B::open();
+    // by number, which both are told; as a fold over the numbers it got no proof
     for i in 0..count {
         best = relax(best, first(i), second(i));
     }

@@ -1,5 +1,6 @@
 // The bounds that a motion's wait and windows write between the dates at the old end and the new now.
-// They lie at the front of the work table: n + 1 on a date less the new now, then n + 1 the other way.
+// They lie at the front of the one work table that the caller lends (nothing here allocates): n + 1 on a date
+// less the new now, then n + 1 the other way.
 ghost use Rattle.std.specs.Prelude.{◌≡◌, ◌+◌, ◌*◌, ◌<◌, ◌≤◌, false, length, pos, Some, slice_set};
 ghost use Rattle.chart.specs.Charts.{held as held_motion, WindowOf};
 ghost use Rattle.chart.specs.Lists.{All};

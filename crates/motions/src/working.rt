@@ -12,10 +12,10 @@ use crate::star::spread;
 use crate::windows::direct;
 use bound::{Bound, allows_zero, zero};
 use chart::{Motion, Timers};
-use table::{Found, MOST_SIZE, Table, fill, pick, relax, sum_or_open};
+use table::{Found, MOST_SIZE, Table, all_small, fill, pick, relax, sum_or_open};
 
 // 2^39
-const HALF_SIZE: u64 = 549_755_813_888;
+const HALF_SIZE: u64 = 1 << 39;
 
 // Whether every bound has a size of at most 2^39.
 fn modest<B: Bound>(bounds: &[B]) -> bool
@@ -25,7 +25,7 @@ fn modest<B: Bound>(bounds: &[B]) -> bool
 }
 
 // What the new table is made from, beside the old one: the bounds of the new now, which lie in the work
-// table, and the restarts.
+// table, and the restarts. Its lists stay in one slice: cut, each contract would name three and their lengths.
 #[derive(Drop)]
 struct NewNow<'a, B: Bound> {
     work: &'a [B],
@@ -105,21 +105,13 @@ impl<'a, B: Bound> NewNow<'a, B> {
         }
     }
 
-    // Whether no size in the new table is above 2^40.
-    fn all_fit(&self, table: &Table<B>) -> bool
+    // What stands in row `u` and column `v` of the new table.
+    fn new_bound(&self, table: &Table<B>, u: usize, v: usize) -> B
         requires same { table.now.timers.count ≡ self.now.timers.count }
-        ensures all { result ≡ true → (u v : ℕ) → u < 2 * self.now.timers.count + 2 → v < 2 * self.now.timers.count + 2 → B.meaning.size_of (new_cell B.meaning self.now.zero self.now.timers.count (held_motion self.now.motion.now) table.now.cells.now self.now.work.now u v) ≤ 2 ^ 40 }
-        ensures one { result ≡ false → (u : ℕ) × (v : ℕ) × (u < 2 * self.now.timers.count + 2) × (v < 2 * self.now.timers.count + 2) × (2 ^ 40 < B.meaning.size_of (new_cell B.meaning self.now.zero self.now.timers.count (held_motion self.now.motion.now) table.now.cells.now self.now.work.now u v)) }
+        requires inside { (u < 2 * self.now.timers.count + 2) × (v < 2 * self.now.timers.count + 2) }
+        ensures { result ≡ new_cell B.meaning self.now.zero self.now.timers.count (held_motion self.now.motion.now) table.now.cells.now self.now.work.now u v }
     {
-        let side = 2 * self.timers.count as usize + 2;
-        for u in 0..side {
-            for v in 0..side {
-                if self.settled(table.read(u, v), u, v).size() > MOST_SIZE {
-                    return false;
-                }
-            }
-        }
-        true
+        self.settled(table.read(u, v), u, v)
     }
 
     // Whether every bound between a node and the new now has a size of at most 2^39.
@@ -130,13 +122,18 @@ impl<'a, B: Bound> NewNow<'a, B> {
         modest(&self.work[side..3 * side])
     }
 
-    // As `all_fit`, with a quick yes: sums of two sizes up to 2^39 need no look at every place.
+    // Whether no size in the new table is above 2^40, with a quick yes: sums of two sizes up to 2^39 need no
+    // look at every place.
     fn sizes_fit(&self, table: &Table<B>) -> bool
         requires same { table.now.timers.count ≡ self.now.timers.count }
         ensures all { Small B.meaning (2 * self.now.timers.count + 2) table.now.cells.now → B.meaning.size_of self.now.zero ≤ 1 → result ≡ true → (u v : ℕ) → u < 2 * self.now.timers.count + 2 → v < 2 * self.now.timers.count + 2 → B.meaning.size_of (new_cell B.meaning self.now.zero self.now.timers.count (held_motion self.now.motion.now) table.now.cells.now self.now.work.now u v) ≤ 2 ^ 40 }
         ensures one { result ≡ false → (u : ℕ) × (v : ℕ) × (u < 2 * self.now.timers.count + 2) × (v < 2 * self.now.timers.count + 2) × (2 ^ 40 < B.meaning.size_of (new_cell B.meaning self.now.zero self.now.timers.count (held_motion self.now.motion.now) table.now.cells.now self.now.work.now u v)) }
     {
-        self.all_modest() || self.all_fit(table)
+        if self.all_modest() {
+            return true;
+        }
+        let side = 2 * self.timers.count as usize + 2;
+        all_small(side, MOST_SIZE, |u, v| self.new_bound(table, u, v))
     }
 
     // What is found; the new table takes the place of the old one where it is the longer chart's.

@@ -36,6 +36,6 @@ pub fn clear<B: Bound>(table: &mut [B], count: usize)
     ensures cleared { (i : ℕ) → i < count → at B.meaning table.new i ≡ B.meaning.opened }
     ensures beyond { Beyond B.meaning count table.old table.new }
 {
-    // `fill` of the library asks for a clone that cannot fail, and a kind promises none
+    // the library's `fill` asks for a clone that cannot fail; `fill_with` gets no proof where a parameter names the kind
     fill_row(&mut table[..count], |_, _| B::open());
 }

@@ -1,5 +1,5 @@
 // The largest size that a chart's table may have: 2^40.
-pub const MOST_SIZE: u64 = 1_099_511_627_776;
+pub const MOST_SIZE: u64 = 1 << 40;
 
 // What the working of a motion or a join finds.
 #[derive(Clone, Copy, PartialEq, Eq, Debug)]

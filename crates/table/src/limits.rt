@@ -1,5 +1,4 @@
-// A chart's table to be read, the limits that it gives, and the first name under which one table's limit is
-// looser than another's.
+// The limits that a table gives, and the first name under which one table's limit is looser than another's.
 ghost use Rattle.std.specs.Prelude.{◌≡◌, ◌+◌, ◌*◌, ◌<◌, ◌≤◌, true, false, length};
 ghost use Rattle.runs.specs.Limits.{NameOf};
 ghost use Rattle.runs.specs.Normal.{IsLimit};
@@ -7,8 +6,7 @@ ghost use Rattle.runs.specs.Search.{Passes, Fails};
 ghost use Rattle.table.specs.Cells.{cell, Small};
 ghost use Rattle.table.specs.Compared.{answered, is_pair, is_name, Parts, limit_at, tighter_at, AllTighter, FoundFirst};
 
-use crate::cells::read;
-use crate::view::Table;
+use crate::view::{Table, TwoTables};
 use bound::{Bound, keep_tighter};
 use chart::Timers;
 use runs::Name;
@@ -29,7 +27,7 @@ pub fn is_name(name: Name, timers: Timers) -> bool
     let n = timers.count;
     is_pair(n, name.a, name.b)
         && is_pair(n, name.c, name.d)
-        && name.a as u16 + name.b as u16 + name.c as u16 + name.d as u16 != 0
+        && (name.a, name.b, name.c, name.d) != (0, 0, 0, 0)
 }
 
 // The sum of two bounds, or open where the kind answers none.
@@ -56,57 +54,66 @@ impl<'a, B: Bound> Table<'a, B> {
         let crossed = sum_or_open(self.read(d, a), self.read(b, c));
         keep_tighter(straight, crossed)
     }
+}
 
-    // Whether this is a name under which the table's limit is not tighter than the other's.
-    fn looser_at(&self, other: &Table<B>, name: Name) -> bool
+impl<'a, B: Bound> TwoTables<'a, B> {
+    // Whether this is a name under which the first table's limit is not tighter than the second's.
+    fn looser_at(&self, name: Name) -> bool
         requires parts { Parts self.now.timers.count name }
-        requires same { other.now.timers.count ≡ self.now.timers.count }
-        ensures yes { result ≡ true → Fails self.now.timers.count (tighter_at B.meaning self.now.timers.count self.now.cells.now other.now.cells.now) name.a name.b name.c name.d }
-        ensures no { result ≡ false → Passes self.now.timers.count (tighter_at B.meaning self.now.timers.count self.now.cells.now other.now.cells.now) name.a name.b name.c name.d }
+        ensures yes { result ≡ true → Fails self.now.timers.count (tighter_at B.meaning self.now.timers.count self.now.first.now self.now.second.now) name.a name.b name.c name.d }
+        ensures no { result ≡ false → Passes self.now.timers.count (tighter_at B.meaning self.now.timers.count self.now.first.now self.now.second.now) name.a name.b name.c name.d }
     {
-        is_name(name, self.timers) && !self.limit(name).tighter(other.limit(name))
+        let timers = self.timers;
+        let first = Table {
+            cells: self.first,
+            timers,
+        };
+        let second = Table {
+            cells: self.second,
+            timers,
+        };
+        is_name(name, timers) && !first.limit(name).tighter(second.limit(name))
     }
 
-    // Whether every place is tighter than the other's.
-    fn all_tighter(&self, other: &Table<B>) -> bool
-        requires same { other.now.timers.count ≡ self.now.timers.count }
-        ensures yes { result ≡ true → AllTighter B.meaning ((2 * self.now.timers.count + 2) * (2 * self.now.timers.count + 2)) self.now.cells.now other.now.cells.now }
-        ensures no { result ≡ false → AllTighter B.meaning ((2 * self.now.timers.count + 2) * (2 * self.now.timers.count + 2)) self.now.cells.now other.now.cells.now → ⊥ }
+    // Whether every place of the first table is tighter than the second's.
+    fn all_tighter(&self) -> bool
+        ensures yes { result ≡ true → AllTighter B.meaning ((2 * self.now.timers.count + 2) * (2 * self.now.timers.count + 2)) self.now.first.now self.now.second.now }
+        ensures no { result ≡ false → AllTighter B.meaning ((2 * self.now.timers.count + 2) * (2 * self.now.timers.count + 2)) self.now.first.now self.now.second.now → ⊥ }
     {
         let side = 2 * self.timers.count as usize + 2;
         let count = side * side;
-        let own = &self.cells[..count];
-        own.iter()
-            .zip(&other.cells[..count])
+        let first = &self.first[..count];
+        first
+            .iter()
+            .zip(&self.second[..count])
             .all(|(held, bound)| held.tighter(*bound))
     }
 
-    // The first name, in rising order of a, then b, c and d, under which the table's limit is not tighter
-    // than the other's; none where it is tighter under every name. Tables with no size above 2^40 are
-    // compared so.
-    pub fn first_looser(&self, other: &Table<B>) -> Option<Name>
-        requires same { other.now.timers.count ≡ self.now.timers.count }
-        ensures { Small B.meaning (2 * self.now.timers.count + 2) self.now.cells.now → Small B.meaning (2 * self.now.timers.count + 2) other.now.cells.now → FoundFirst B.meaning self.now.timers.count self.now.cells.now other.now.cells.now result }
+    // The first name, in rising order of a, then b, c and d, under which the first table's limit is not
+    // tighter than the second's; none where it is tighter under every name. Tables with no size above 2^40
+    // are compared so.
+    pub fn first_looser(&self) -> Option<Name>
+        ensures { Small B.meaning (2 * self.now.timers.count + 2) self.now.first.now → Small B.meaning (2 * self.now.timers.count + 2) self.now.second.now → FoundFirst B.meaning self.now.timers.count self.now.first.now self.now.second.now result }
     {
         // sums of tighter bounds are tighter, where they are answered
-        if self.all_tighter(other) {
+        if self.all_tighter() {
             return None;
         }
-        self.first_name(other)
+        self.first_name()
     }
 
     // As `first_looser`, by a look at every name.
-    fn first_name(&self, other: &Table<B>) -> Option<Name>
-        requires same { other.now.timers.count ≡ self.now.timers.count }
-        ensures { FoundFirst B.meaning self.now.timers.count self.now.cells.now other.now.cells.now result }
+    fn first_name(&self) -> Option<Name>
+        ensures { FoundFirst B.meaning self.now.timers.count self.now.first.now self.now.second.now result }
     {
         let n = self.timers.count;
+        // over the parts of names, in the order of names
         for a in 0..=n {
             for b in 0..=n {
                 for c in 0..=n {
                     for d in 0..=n {
                         let name = Name { a, b, c, d };
-                        if self.looser_at(other, name) {
+                        if self.looser_at(name) {
                             return Some(name);
                         }
                     }

@@ -1,7 +1,7 @@
 // The empty chart's table.
 ghost use Rattle.std.specs.Prelude.{◌≡◌, ◌+◌, ◌*◌, ◌<◌, ◌≤◌, false, [], length, pos, Some};
 ghost use Rattle.runs.specs.Empty.{base};
-ghost use Rattle.table.specs.Cells.{Only, Holds, Rows, Beyond, empty_cell};
+ghost use Rattle.table.specs.Cells.{Rows, Beyond, empty_cell};
 ghost use Rattle.table.specs.Finds.{ChartTable};
 
 use crate::filling::fill;
@@ -9,20 +9,19 @@ use bound::{Bound, zero};
 use chart::Timers;
 
 // The start node whose date a node has in the empty chart.
-fn start_node(u: usize, n: usize) -> usize
-    requires { n ≤ 8 }
-    ensures { result ≡ base n u }
+fn start_node(u: usize, timers: Timers) -> usize
+    ensures { result ≡ base timers.count u }
 {
+    let n = timers.count as usize;
     if u <= n { u } else { u - (n + 1) }
 }
 
 // The bound in row `u` and column `v` of the empty chart's table.
-fn empty_cell<B: Bound>(n: usize, u: usize, v: usize, zero: B) -> B
-    requires { n ≤ 8 }
-    ensures { result ≡ empty_cell B.meaning zero n u v }
+fn empty_cell<B: Bound>(timers: Timers, u: usize, v: usize, zero: B) -> B
+    ensures { result ≡ empty_cell B.meaning zero timers.count u v }
 {
-    let i = start_node(u, n);
-    let j = start_node(v, n);
+    let i = start_node(u, timers);
+    let j = start_node(v, timers);
     if j == 0 || i == j { zero } else { B::open() }
 }
 
@@ -33,7 +32,7 @@ pub fn empty<B: Bound>(table: &mut [B], timers: Timers)
     ensures its { ChartTable B.meaning timers.count [] table.new }
     ensures beyond { Beyond B.meaning ((2 * timers.count + 2) * (2 * timers.count + 2)) table.old table.new }
 {
-    let n = timers.count as usize;
+    let side = 2 * timers.count as usize + 2;
     let zero = zero();
-    fill(table, 2 * n + 2, |u, v, _| empty_cell(n, u, v, zero));
+    fill(table, side, |u, v, _| empty_cell(timers, u, v, zero));
 }

@@ -21,7 +21,7 @@ fn sweep<B: Bound>(work: &mut [B], base: usize, other: usize, count: usize, boun
     ensures only { Only B.meaning base count work.old work.new }
     ensures row { Holds B.meaning base count (λ v. relaxed B.meaning (at B.meaning work.old (base + v)) bound (at B.meaning work.old (other + v))) work.new }
 {
-    // by index, since both rows lie in one slice
+    // by index, since both rows lie in one slice, and may be the same one
     for v in 0..count {
         work[base + v] = relax(work[base + v], bound, work[other + v]);
     }
@@ -45,6 +45,7 @@ pub fn pivot<B: Bound>(work: &mut [B], side: usize, p: usize)
     ensures cells { Rows B.meaning side side (pivoted B.meaning side p work.old) work.new }
     ensures beyond { Beyond B.meaning (side * side) work.old work.new }
 {
+    // by node, which a pivot is told
     for u in 0..side {
         if u != p {
             pivot_row(work, side, p, u);

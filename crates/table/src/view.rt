@@ -1,4 +1,4 @@
-// A chart's table, to be read.
+// Charts' tables, to be read.
 ghost use Rattle.std.specs.Prelude.{◌≡◌, ◌+◌, ◌*◌, ◌<◌, ◌≤◌, length};
 ghost use Rattle.table.specs.Cells.{cell};
 
@@ -13,6 +13,16 @@ pub struct Table<'a, B: Bound> {
     pub cells: &'a [B],
     pub timers: Timers,
     ghost room: { (2 * timers.count + 2) * (2 * timers.count + 2) ≤ length cells.now },
+}
+
+// The tables of two charts with the same timers.
+#[derive(Drop)]
+pub struct TwoTables<'a, B: Bound> {
+    pub first: &'a [B],
+    pub second: &'a [B],
+    pub timers: Timers,
+    ghost first_room: { (2 * timers.count + 2) * (2 * timers.count + 2) ≤ length first.now },
+    ghost second_room: { (2 * timers.count + 2) * (2 * timers.count + 2) ≤ length second.now },
 }
 
 impl<'a, B: Bound> Table<'a, B> {

@@ -1,4 +1,4 @@
-use Rattle.std.proofs.Common.{rules, ◌≡◌, ℕ, ◌<◌, arith}
+use Rattle.std.proofs.Common.{rules, ℕ, arith}
 use Rattle.std.proofs.lemmas.Iterator.{cases_from_all, YieldsList-from_range}
 use Rattle.motions.specs.Star.{TripAllows, StarFits}
 use Rattle.motions.proofs.Ranges.{Tested, tested_yes, tested_no}
