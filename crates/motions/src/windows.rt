@@ -11,19 +11,13 @@ use bound::{Bound, keep_tighter, zero};
 use chart::{Motion, Sign, Timers, Window};
 use table::clear;
 
-// A bound tightened by "< c" or "≤ c".
-fn tightened<B: Bound>(held: B, strict: bool, c: i64) -> B
-    ensures { result ≡ tightened_by B.meaning held (B.meaning.written strict c) }
-{
-    B::written(strict, c).map_or(held, |bound| keep_tighter(held, bound))
-}
-
-// Tightens one place.
+// Tightens one place by "< c" or "≤ c".
 fn write<B: Bound>(work: &mut [B], place: usize, strict: bool, c: i64)
     requires { place < length work.old }
     ensures { work.new ≡ slice_set work.old place (tightened_by B.meaning (at B.meaning work.old place) (B.meaning.written strict c)) }
 {
-    work[place] = tightened(work[place], strict, c);
+    let held = work[place];
+    work[place] = B::written(strict, c).map_or(held, |bound| keep_tighter(held, bound));
 }
 
 // One window more. An upper one bounds the new now less the timer's date, a lower one the reverse.
