@@ -38,6 +38,7 @@ pub fn all_small<B: Bound, F: Fn(usize, usize) -> B>(side: usize, most: u64, cel
     ensures small { result ≡ true → (u v : ℕ) → u < side → v < side → (b : B) × F.post cell u v b × (B.meaning.size_of b ≤ most) }
     ensures large { result ≡ false → (u : ℕ) × (v : ℕ) × (u < side) × (v < side) × (b : B) × F.post cell u v b × (most < B.meaning.size_of b) }
 {
+    // by number, which `cell` is told
     for u in 0..side {
         for v in 0..side {
             if cell(u, v).size() > most {
