@@ -1,4 +1,5 @@
-// Places of a square table.
+// Places of a square table. A side is at most 27, 3n + 3 for 8 timers, so that no place overflows: what writes
+// squares takes the slice (see `Table`), and so each function asks it.
 ghost use Rattle.std.specs.Prelude.{◌≡◌, ℕ, ◌+◌, ◌*◌, ◌<◌, ◌≤◌, length};
 ghost use Rattle.table.specs.Cells.{at, cell, Beyond};
 
