@@ -25,6 +25,50 @@ use Rattle.board.specs.Calls.{no_limit, Compares, RunsIs, WithinIs, LimitIs, Spa
 use Rattle.board.specs.Holding.{Holds, StandsFor, TimersAre}
 use Rattle.board.proofs.Standings.{when_opened, has_table, has_chain}
 
+-- ── A chart's table ──
+
+module _ {B : Type 0} (m : Meaning B) (laws : Laws m) (n : Timers) (c : Chart) (table : List B) (its : ChartTable m n.count c table) where
+  limit_told : (l : Name) → NameOf n.count l → (bound : B) → IsLimit m n.count table l bound → LimitIs m (charted n c) l (Ok bound)
+  limit_told l of bound is =
+      inl (
+        its.runs,
+        inl (
+          of,
+          (
+            bound,
+            refl,
+            record {
+              table = table;
+              normalised = its.normalised;
+              told = is;
+              sharp = (tells m laws n.count c table its.good).sharp l of bound is;
+            },
+          ),
+        ),
+      )
+
+  span_told : (most least : B) → most ≡ cell m (2 * n.count + 2) table (n.count + 1) 0 → least ≡ cell m (2 * n.count + 2) table 0 (n.count + 1)
+      → SpanIs m (charted n c) (Ok (most, least))
+  span_told most least e f =
+      inl (
+        its.runs,
+        (
+          most,
+          least,
+          refl,
+          record {
+            above = subst (λ (x : B). Tightest m.differences n.count c (node n.count c (n.count + 1)) (node n.count c 0) (m.allows x)) (sym e) (its.normalised (n.count + 1) 0 (omega arith) (omega arith));
+            below = subst (λ (x : B). Tightest m.differences n.count c (node n.count c 0) (node n.count c (n.count + 1)) (m.allows x)) (sym f) (its.normalised 0 (n.count + 1) (omega arith) (omega arith));
+            kept = λ σ t ε run. let k = time_kept laws.ordered n.count c (table_of m n.count table) its.good σ t ε run in (
+              subst (λ (x : B). m.allows x t) (sym e) (subst (λ (u : ℕ). table_of m n.count table u 0 t) (omega arith) k.0),
+              subst (λ (x : B). m.allows x (m.differences.neg t)) (sym f) (subst (λ (u : ℕ). table_of m n.count table 0 u (m.differences.neg t)) (omega arith) k.1),
+            );
+          },
+        ),
+      )
+
+-- ── A board ──
+
 -- a state is not both
 only_one : (s : State) → s ≡ Blank → s ≡ Never → ⊥
 only_one s e f = cc
@@ -45,44 +89,18 @@ module _ {B : Type 0} (m : Meaning B) (laws : Laws m) (h : Header) (table : List
     pub span_never : h.state ≡ Never → (s : Standing) → StandsFor m h table s → SpanIs m s (Err fault.Never)
     span_never e = when_opened m h table n are.1 are.0 (λ s. SpanIs m s (Err fault.Never)) (λ c holds. inr (no_run n c e holds, refl))
 
-    pub limit_told : h.state ≡ Runs → (l : Name) → NameOf n.count l → (bound : B) → (Small m (2 * n.count + 2) table → IsLimit m n.count table l bound)
+    pub limit_answered : h.state ≡ Runs → (l : Name) → NameOf n.count l → (bound : B) → (Small m (2 * n.count + 2) table → IsLimit m n.count table l bound)
         → (s : Standing) → StandsFor m h table s → LimitIs m s l (Ok bound)
-    limit_told e l of bound is =
+    limit_answered e l of bound is =
         when_opened m h table n are.1 are.0 (λ s. LimitIs m s l (Ok bound)) (λ c holds.
         let its = has_table m h table n c holds e in
-        inl (
-          its.runs,
-          inl (
-            of,
-            (
-              bound,
-              refl,
-              record { table = table; normalised = its.normalised; told = is its.small; sharp = (tells m laws n.count c table its.good).sharp l of bound (is its.small) },
-            ),
-          ),
-        ))
+        limit_told m laws n c table its l of bound (is its.small))
 
-    pub span_told : h.state ≡ Runs → (most least : B) → most ≡ cell m (2 * n.count + 2) table (n.count + 1) 0 → least ≡ cell m (2 * n.count + 2) table 0 (n.count + 1)
+    pub span_answered : h.state ≡ Runs → (most least : B) → most ≡ cell m (2 * n.count + 2) table (n.count + 1) 0 → least ≡ cell m (2 * n.count + 2) table 0 (n.count + 1)
         → (s : Standing) → StandsFor m h table s → SpanIs m s (Ok (most, least))
-    span_told e most least p q =
+    span_answered e most least p q =
         when_opened m h table n are.1 are.0 (λ s. SpanIs m s (Ok (most, least))) (λ c holds.
-        let its = has_table m h table n c holds e in
-        inl (
-          its.runs,
-          (
-            most,
-            least,
-            refl,
-            record {
-              above = subst (λ (x : B). Tightest m.differences n.count c (node n.count c (n.count + 1)) (node n.count c 0) (m.allows x)) (sym p) (its.normalised (n.count + 1) 0 (omega arith) (omega arith));
-              below = subst (λ (x : B). Tightest m.differences n.count c (node n.count c 0) (node n.count c (n.count + 1)) (m.allows x)) (sym q) (its.normalised 0 (n.count + 1) (omega arith) (omega arith));
-              kept = λ σ t ε run. let k = time_kept laws.ordered n.count c (table_of m n.count table) its.good σ t ε run in (
-                subst (λ (x : B). m.allows x t) (sym p) (subst (λ (u : ℕ). table_of m n.count table u 0 t) (omega arith) k.0),
-                subst (λ (x : B). m.allows x (m.differences.neg t)) (sym q) (subst (λ (u : ℕ). table_of m n.count table 0 u (m.differences.neg t)) (omega arith) k.1),
-              );
-            },
-          ),
-        ))
+        span_told m laws n c table (has_table m h table n c holds e) most least p q)
 
 -- ── Two charts compared ──
 
