@@ -28,7 +28,7 @@ use Rattle.board.proofs.Standings.{when_opened, has_table, has_chain}
 -- ── A chart's table ──
 
 module _ {B : Type 0} (m : Meaning B) (laws : Laws m) (n : Timers) (c : Chart) (table : List B) (its : ChartTable m n.count c table) where
-  limit_told : (l : Name) → NameOf n.count l → (bound : B) → IsLimit m n.count table l bound → LimitIs m (charted n c) l (Ok bound)
+  pub limit_told : (l : Name) → NameOf n.count l → (bound : B) → IsLimit m n.count table l bound → LimitIs m (charted n c) l (Ok bound)
   limit_told l of bound is =
       inl (
         its.runs,
@@ -47,7 +47,7 @@ module _ {B : Type 0} (m : Meaning B) (laws : Laws m) (n : Timers) (c : Chart) (
         ),
       )
 
-  span_told : (most least : B) → most ≡ cell m (2 * n.count + 2) table (n.count + 1) 0 → least ≡ cell m (2 * n.count + 2) table 0 (n.count + 1)
+  pub span_told : (most least : B) → most ≡ cell m (2 * n.count + 2) table (n.count + 1) 0 → least ≡ cell m (2 * n.count + 2) table 0 (n.count + 1)
       → SpanIs m (charted n c) (Ok (most, least))
   span_told most least e f =
       inl (
@@ -105,10 +105,10 @@ module _ {B : Type 0} (m : Meaning B) (laws : Laws m) (h : Header) (table : List
 -- ── Two charts compared ──
 
 module _ {B : Type 0} (m : Meaning B) (laws : Laws m) (n : ℕ) (c d : Chart) where
-  never_compares : graph.Never m.differences n c → Compares m n c d None
+  pub never_compares : graph.Never m.differences n c → Compares m n c d None
   never_compares never = never_within laws.ordered never d
 
-  against_never : HasRun m.differences n c → graph.Never m.differences n d → Compares m n c d (Some no_limit)
+  pub against_never : HasRun m.differences n c → graph.Never m.differences n d → Compares m n c d (Some no_limit)
   against_never (σ, ε, j) never =
       let none = never_runs laws.ordered never in
       (λ within. none (σ, ε, within σ ε j), (σ, ε, j), inl (none, refl))
@@ -120,7 +120,7 @@ module _ {B : Type 0} (m : Meaning B) (laws : Laws m) (n : ℕ) (c d : Chart) wh
     is' : (k : Name) → NameOf n k → IsLimit m n other k (limit_at m n other k)
     is' k of = limit_at_is m laws n other its'.small k (parts of)
 
-    both_compare : (o : Option Name) → FoundFirst m n table other o → Compares m n c d o
+    pub both_compare : (o : Option Name) → FoundFirst m n table other o → Compares m n c d o
     both_compare None all = (decides m laws n c d table other its.good its'.good (limit_at m n table) (limit_at m n other) is is').within.1 all
     both_compare (Some l) fails = (
       λ within. false≢true (sym fails.fails ∙ (decides m laws n c d table other its.good its'.good (limit_at m n table) (limit_at m n other) is is').within.0 within l fails.named),

@@ -19,6 +19,7 @@ use table::{Table, TwoTables};
 const MOST_MOTIONS: u32 = 1_000_000_000;
 
 // What a running board tells against one that never runs: the name of no limit.
+// The rules give it the name 0 0 0 0.
 const NO_LIMIT: Name = Name {
     a: 0,
     b: 0,

@@ -12,7 +12,7 @@ pub enum State {
 }
 
 // What a board knows beside its table. Nothing reads the timers and the count of a Blank board.
-// It stays plain, so that `settle` matches its state and the finding together, in place.
+// A rule of the project wants it plain: state, timers and count, matched with the finding in place.
 #[derive(Clone, Copy)]
 pub struct Header {
     pub(crate) state: State,

@@ -46,7 +46,8 @@ pub enum Answer<B: Bound> {
     Joined(Result<(), BoardFault>),
     Runs(Result<bool, BoardFault>),
     Counted(Result<u32, BoardFault>),
-    // none where the first board's chart is within the other's, else the first limit that is not tighter
+    // none where the first board's chart is within the other's, else the first limit that is not tighter, or
+    // 0 0 0 0 where the other chart never runs
     Compared(Result<Option<Name>, BoardFault>),
     Limited(Result<B, BoardFault>),
     Spanned(Result<(B, B), BoardFault>),
