@@ -3,7 +3,7 @@ ghost use Rattle.std.specs.Prelude.{◌≡◌, ◌+◌, ◌<◌, ◌≤◌, leng
 ghost use Rattle.chart.specs.Bytes.{two, four};
 
 // The N bytes from `at` on.
-pub fn array_at<const N: usize>(bytes: &[u8], at: usize) -> [u8; N]
+fn array_at<const N: usize>(bytes: &[u8], at: usize) -> [u8; N]
     requires { at + N ≤ length bytes.now }
     ensures { result ≡ slice_range bytes.now at (at + N) }
 {

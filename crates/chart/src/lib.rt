@@ -7,4 +7,4 @@ mod types;
 mod words;
 
 pub use read::read_motion;
-pub use types::{Motion, MotionFault, NoSign, Sign, Timers, Window};
+pub use types::{Motion, MotionFault, Sign, Timers, UnknownByte, Window};

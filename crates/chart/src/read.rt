@@ -8,25 +8,25 @@ ghost use Rattle.chart.specs.Ranges.{timers_of};
 ghost use Rattle.chart.specs.Reading.{sign_of, window_at, motion_of};
 
 use crate::bytes::u32_at;
-use crate::types::{Motion, MotionFault, NoSign, Sign, Timers, Window};
+use crate::types::{Motion, MotionFault, Sign, Timers, UnknownByte, Window};
 
 const MOST_WINDOWS: u8 = 16;
 
 const MOST_NUMBER: u32 = 1_000_000_000;
 
 impl TryFrom<u8> for Sign {
-    type Error = NoSign;
+    type Error = UnknownByte;
 
     ghost try_from_gives = { λ byte r. r ≡ ok_or (sign_of byte) (record { 0 = byte }) };
 
-    fn try_from(byte: u8) -> Result<Sign, NoSign> {
+    fn try_from(byte: u8) -> Result<Sign, UnknownByte> {
         match byte {
             1 => Ok(Sign::AtMost),
             2 => Ok(Sign::Under),
             3 => Ok(Sign::AtLeast),
             4 => Ok(Sign::Over),
             5 => Ok(Sign::Equal),
-            _ => Err(NoSign(byte)),
+            _ => Err(UnknownByte(byte)),
         }
     }
 }
@@ -62,6 +62,7 @@ const FILLER: Window = Window {
     number: 0,
 };
 
+// Apart from `read_motion`, so that the theorem there is stated once, and is no goal at each return here.
 fn motion_of(bytes: &[u8], timers: Timers) -> Result<(Motion, usize), MotionFault>
     ensures { result_map_both held_with (λ e. e) result ≡ motion_of timers bytes.now }
 {

@@ -21,10 +21,10 @@ pub enum Sign {
     Equal,
 }
 
-// A byte that stands for no sign.
+// A byte that stands for nothing, where one is to stand for a sign, say, or for a chart's kind.
 #[derive(Clone, Copy, PartialEq, Eq, Debug, Error)]
-#[error("no sign is written as {0}")]
-pub struct NoSign(pub u8);
+#[error("the byte {0} stands for nothing")]
+pub struct UnknownByte(pub u8);
 
 // A demand on one timer's value (a guard).
 #[derive(Clone, Copy, PartialEq, Eq, Debug)]

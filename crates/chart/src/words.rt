@@ -24,10 +24,7 @@ impl fmt::Display for Window {
     ghost output = { λ window. Some (window_words window) };
 
     fn fmt<W: fmt::Write>(&self, f: &mut fmt::Formatter<W>) -> fmt::Result {
-        let timer = self.timer;
-        let sign = self.sign;
-        let number = self.number;
-        write!(f, "timer {timer} {sign} {number}")
+        write!(f, "timer {} {} {}", self.timer, self.sign, self.number)
     }
 }
 
@@ -77,8 +74,6 @@ impl fmt::Display for Motion {
     ghost output = { λ motion. Some (parts_words (held motion)) };
 
     fn fmt<W: fmt::Write>(&self, f: &mut fmt::Formatter<W>) -> fmt::Result {
-        let windows = Windows(self.windows());
-        let restarts = Restarts(self);
-        write!(f, "{windows}restarts {restarts}")
+        write!(f, "{}restarts {}", Windows(self.windows()), Restarts(self))
     }
 }

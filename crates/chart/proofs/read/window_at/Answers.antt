@@ -1,13 +1,13 @@
 use Rattle.std.proofs.Common.{◌+◌, ◌≡◌, ◌<◌, get_or, Some, None, Ok, Option, sym, refl, ap, ◌∙◌, ⊎_elim, arith}
 use Rattle.std.specs.Option.{ok_or}
 use Rattle.chart.specs.declared.types.Sign.{Sign}
-use Rattle.chart.specs.declared.types.NoSign.{NoSign}
+use Rattle.chart.specs.declared.types.UnknownByte.{UnknownByte}
 use Rattle.chart.specs.Bytes.{four}
 use Rattle.chart.specs.Reading.{sign_of}
 use Rattle.chart.proofs.Parts.{timer_none, timer_above, sign_none, number_above, window_made, same_window}
 use Rattle.chart.proofs.read.window_at.Goals as goal
 
-read : (o : Option Sign) (s : Sign) (e : NoSign) → ok_or o e ≡ Ok s → o ≡ Some s
+read : (o : Option Sign) (s : Sign) (e : UnknownByte) → ok_or o e ≡ Ok s → o ≡ Some s
 read (Some t) s e q = cc
 read None s e q = absurd (grind arith)
 
