@@ -61,8 +61,7 @@ impl<'a> fmt::Display for Restarts<'a> {
         let mut first = true;
         for timer in 1u8..9 {
             if self.0.restarts(timer) {
-                let comma = separator(first);
-                write!(f, "{comma}timer {timer}")?;
+                write!(f, "{}timer {timer}", separator(first))?;
                 first = false;
             }
         }

@@ -18,7 +18,7 @@ loop-timer-preserved g c = λ plain.
       | then-restarts+in_ok-write w ↦ (
         text ++ (separator first ++ (codes "timer " ++ decimal i)),
         has_written_to_eq _ _ _ _ _ w.f-is
-            (has_written_append _ _ _ _ _ _ so_far.1 (has_written_of_eq _ _ _ _ _ (ap (λ (xs : List ℕ). xs ++ (codes "timer " ++ decimal i)) w.separator-comma.ensures) (search rules))),
+            (has_written_append _ _ _ _ _ _ so_far.1 (has_written_of_eq _ _ _ _ _ (ap (λ (xs : List ℕ). xs ++ (codes "timer " ++ decimal i)) w.separator.ensures) (search rules))),
         rw w.first-is (restarts_more m i first text whole so_far.2 (omega arith) (sym c.restarts.ensures ∙ w.if-restarts.true)),
       )
       | else-restarts w ↦ (
