@@ -80,9 +80,9 @@ fn motion_of(bytes: &[u8], timers: Timers) -> Result<(Motion, usize), MotionFaul
         return Err(MotionFault::Cut);
     }
     let mut slots = [FILLER; 16];
-    // k gives the slot and the place in the bytes, which a fault names: zipped with the slots this is no shorter.
-    for k in 0..count {
-        slots[k as usize] = window_at(bytes, 2 + 6 * k, timers)?;
+    // k gives the place. Zipped with `(2u8..).step_by(6)` for it, what the slots then hold is not proved by the check alone.
+    for (k, slot) in slots[..count as usize].iter_mut().enumerate() {
+        *slot = window_at(bytes, 2 + 6 * k as u8, timers)?;
     }
     let motion = Motion {
         slots,
