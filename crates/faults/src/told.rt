@@ -1,5 +1,5 @@
 // A fault told by its five numbers.
-ghost use Rattle.std.specs.Prelude.{◌≡◌, ◌<◌};
+ghost use Rattle.std.specs.Prelude.{◌≡◌, ◌^◌, ◌<◌};
 ghost use Rattle.faults.specs.Faults.{fault, told, chart_told, board_told, motion_told};
 
 use crate::types::{AtChart, BoardFault, BookFault, ChartFault, Fault};
@@ -11,7 +11,7 @@ struct Place {
     chart: u64,
     motion: u64,
     start: u64,
-    ghost near: { start < 8589934592 },
+    ghost near: { start < 2 ^ 33 },
 }
 
 impl Place {
@@ -64,28 +64,30 @@ impl Place {
     }
 }
 
-// A chart's fault.
-fn chart_told(at: AtChart) -> Fault
-    ensures { result ≡ chart_told at.chart at.part at.fault }
-{
-    let chart = u64::from(at.chart);
-    let start = u64::from(at.part);
-    let whole = Place {
-        chart,
-        motion: 0,
-        start,
-    };
-    match at.fault {
-        ChartFault::Short => whole.fault(7, 2, start),
-        ChartFault::Kind => whole.fault(8, 2, start),
-        ChartFault::Timers => whole.fault(9, 2, start + 1),
-        ChartFault::Board(at) => {
-            let place = Place {
-                chart,
-                motion: at.motion.into(),
-                start: start + u64::from(at.byte),
-            };
-            place.board(at.fault)
+// The five numbers that tell a chart's fault.
+impl From<AtChart> for Fault {
+    ghost from_gives = { λ e r. r ≡ chart_told e.chart e.part e.fault };
+
+    fn from(e: AtChart) -> Fault {
+        let chart = u64::from(e.chart);
+        let start = u64::from(e.part);
+        let whole = Place {
+            chart,
+            motion: 0,
+            start,
+        };
+        match e.fault {
+            ChartFault::Short => whole.fault(7, 2, start),
+            ChartFault::Kind => whole.fault(8, 2, start),
+            ChartFault::Timers => whole.fault(9, 2, start + 1),
+            ChartFault::Board(at) => {
+                let place = Place {
+                    chart,
+                    motion: at.motion.into(),
+                    start: start + u64::from(at.byte),
+                };
+                place.board(at.fault)
+            }
         }
     }
 }
@@ -116,7 +118,7 @@ impl From<BookFault> for Fault {
             BookFault::Early(pair) => (4, u64::from(pair) + 1, 2 + 8 * u64::from(pair)),
             BookFault::Late(pair) => (5, u64::from(pair) + 1, 2 + 8 * u64::from(pair)),
             BookFault::Missing => (6, 0, 0),
-            BookFault::Chart(at) => return chart_told(at),
+            BookFault::Chart(at) => return at.into(),
         };
         let book = Place {
             chart,
