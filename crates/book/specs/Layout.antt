@@ -4,7 +4,7 @@ use Rattle.std.specs.Result.{result_map_both}
 use Rattle.chart.specs.Bytes.{two, four}
 use Rattle.faults.specs.declared.types.BookFault.{BookFault}
 use Rattle.faults.specs.declared.types.BookFault.TheVariants.{Length, Count, Cut, Early, Late, Missing}
-use Rattle.book.specs.declared.layout.Extent.{Extent}
+use Rattle.std.specs.declared.ops.Range.{Range}
 
 -- how many charts a book names; then come their pairs, and pair k, counted from 0, has an offset and a length
 abbrev pub charts : List ℕ → ℕ
@@ -69,8 +69,9 @@ place_of book k =
     (cond (k == 0 || nat_lt (charts book) k) (Err Missing)
     (Ok (offset book (k - 1), size book (k - 1))))
 
-abbrev pub extent_pair : Extent → ℕ × ℕ
-extent_pair e = (e.offset, e.size)
+-- a place in a book by where it begins and how long it is
+abbrev pub extent_pair : Range ℕ → ℕ × ℕ
+extent_pair r = (r.start, r.end - r.start)
 
 -- the bytes that the pair of chart k names
 abbrev pub handed : List ℕ → ℕ → Result (List ℕ) BookFault

@@ -3,9 +3,8 @@ ghost use Rattle.std.specs.Prelude.{◌≡◌, Some};
 ghost use Rattle.std.specs.Option.{ok_or};
 ghost use Rattle.book.specs.Kinds.{kind_of, kind_name};
 
-use chart::Timers;
+use chart::{Timers, UnknownByte};
 use std::fmt;
-use thiserror::Error;
 
 // The kinds of bound that a chart may be in.
 #[derive(Clone, Copy, PartialEq, Eq, Debug)]
@@ -14,21 +13,16 @@ pub enum Kind {
     Edge,
 }
 
-// A byte that stands for no kind.
-#[derive(Clone, Copy, PartialEq, Eq, Debug, Error)]
-#[error("no kind is written as {0}")]
-pub struct NoKind(pub u8);
-
 impl TryFrom<u8> for Kind {
-    type Error = NoKind;
+    type Error = UnknownByte;
 
     ghost try_from_gives = { λ byte r. r ≡ ok_or (kind_of byte) (record { 0 = byte }) };
 
-    fn try_from(byte: u8) -> Result<Kind, NoKind> {
+    fn try_from(byte: u8) -> Result<Kind, UnknownByte> {
         match byte {
             1 => Ok(Kind::Tick),
             2 => Ok(Kind::Edge),
-            _ => Err(NoKind(byte)),
+            _ => Err(UnknownByte(byte)),
         }
     }
 }

@@ -1,37 +1,30 @@
 // The layout of a book: how many charts it has, and the part that each one's pair names.
-ghost use Rattle.std.specs.Prelude.{◌≡◌, ◌+◌, ◌-◌, ◌*◌, ◌<◌, ◌≤◌, true, ◌↔◌, length, is_ok, IfOk};
+ghost use Rattle.std.specs.Prelude.{◌≡◌, ◌+◌, ◌-◌, ◌*◌, ◌^◌, ◌<◌, ◌≤◌, true, ◌↔◌, length, is_ok, IfOk};
 ghost use Rattle.std.specs.Result.{result_map_both};
 ghost use Rattle.book.specs.Layout.{offset, size, Sound, charts_of, place_of, extent_pair, handed};
 
 use chart::bytes::{u16_at, u32_at};
 use faults::BookFault;
+use std::ops::Range;
 
 const MOST_BYTES: usize = 65536;
 
 const MOST_CHARTS: u16 = 64;
 
-// Where a part begins, and how long it is. Not a `Range`, which is not Copy and has an end for a length.
-#[derive(Clone, Copy)]
-pub(crate) struct Extent {
-    pub(crate) offset: usize,
-    pub(crate) size: usize,
-}
-
-// What pair k says, counted from 0.
-fn pair(book: &[u8], k: u16) -> Extent
+// The place that pair k names, counted from 0.
+fn pair(book: &[u8], k: u16) -> Range<usize>
     requires { 10 + 8 * k ≤ length book.now }
-    ensures start { result.offset ≡ offset book.now k }
-    ensures len { result.size ≡ size book.now k }
-    ensures small { (result.offset < 4294967296) × (result.size < 4294967296) }
+    ensures start { result.start ≡ offset book.now k }
+    ensures end { result.end ≡ offset book.now k + size book.now k }
+    ensures small { (offset book.now k < 2 ^ 32) × (size book.now k < 2 ^ 32) }
 {
     let at = 2 + 8 * k as usize;
-    Extent {
-        offset: u32_at(book, at) as usize,
-        size: u32_at(book, at + 4) as usize,
-    }
+    let start = u32_at(book, at) as usize;
+    start..start + u32_at(book, at + 4) as usize
 }
 
-// The checks of a book's layout, in their order.
+// The checks of a book's layout, in their order. Apart from `charts`, so that the theorem there is stated
+// once, and is no goal at each return here.
 fn checked(book: &[u8]) -> Result<u16, BookFault>
     ensures { result ≡ charts_of book.now }
 {
@@ -49,10 +42,10 @@ fn checked(book: &[u8]) -> Result<u16, BookFault>
     // A fault names k, and `place` reads one pair by its number: in chunks of eight bytes this is no shorter.
     for k in 0..count {
         let place = pair(book, k);
-        if place.offset < least {
+        if place.start < least {
             return Err(BookFault::Early(k));
         }
-        least = place.offset + place.size;
+        least = place.end;
         if least > book.len() {
             return Err(BookFault::Late(k));
         }
@@ -69,9 +62,9 @@ pub fn charts(book: &[u8]) -> Result<u16, BookFault>
 }
 
 // The place of chart `number`, counted from 1.
-pub(crate) fn place(book: &[u8], number: u16) -> Result<Extent, BookFault>
+pub(crate) fn place(book: &[u8], number: u16) -> Result<Range<usize>, BookFault>
     ensures value { result_map_both extent_pair (λ e. e) result ≡ place_of book.now number }
-    ensures within { IfOk result (λ p. (p.offset + p.size ≤ length book.now) × (length book.now ≤ 65536)) }
+    ensures within { IfOk result (λ p. (p.start ≤ p.end) × (p.end ≤ length book.now) × (length book.now ≤ 65536)) }
 {
     let count = charts(book)?;
     if number == 0 || number > count {
@@ -86,5 +79,5 @@ pub fn chart(book: &[u8], number: u16) -> Result<&[u8], BookFault>
     ensures place { IfOk result (λ p. p.ref_ptr ≡ (book.entry.ref_ptr.0, book.entry.ref_ptr.1 + offset book.now (number - 1))) }
 {
     let place = place(book, number)?;
-    Ok(&book[place.offset..place.offset + place.size])
+    Ok(&book[place])
 }

@@ -8,7 +8,7 @@ mod reading;
 mod types;
 
 pub use faults::{AtChart, AtMotion, BoardFault, BookFault, ChartFault, Fault};
-pub use head::{Head, Kind, NoKind};
+pub use head::{Head, Kind};
 pub use layout::{chart, charts};
 pub use part::{count_motions, head_of, motions};
 pub use types::{Motions, Numbered};

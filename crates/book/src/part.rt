@@ -31,8 +31,8 @@ pub fn motions(book: &[u8], number: u16) -> Result<Motions<'_>, BookFault>
     ensures { result_map_both (λ m. (m.head, coming m)) (λ e. e) result ≡ motions_of book.now number }
 {
     let place = place(book, number)?;
-    let part = &book[place.offset..place.offset + place.size];
-    let start = place.offset as u32;
+    let start = place.start as u32;
+    let part = &book[place];
     let head = head_of(part).map_err(|fault| AtChart {
         chart: number,
         part: start,
@@ -48,7 +48,8 @@ pub fn motions(book: &[u8], number: u16) -> Result<Motions<'_>, BookFault>
     })
 }
 
-// The checks of a book and of one of its charts, in their order.
+// The checks of a book and of one of its charts, in their order. Apart from `count_motions`, so that the
+// theorem there is stated once, and is no goal at each return here.
 fn counted(book: &[u8], number: u16) -> Result<u32, BookFault>
     ensures { result ≡ count_of book.now number }
 {

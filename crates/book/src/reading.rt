@@ -14,9 +14,7 @@ impl fmt::Display for Numbered {
     ghost output = { λ x. Some (motion_words x.number (held x.motion)) };
 
     fn fmt<W: fmt::Write>(&self, f: &mut fmt::Formatter<W>) -> fmt::Result {
-        let number = self.number;
-        let motion = self.motion;
-        write!(f, "motion {number}: {motion}")
+        write!(f, "motion {}: {}", self.number, self.motion)
     }
 }
 

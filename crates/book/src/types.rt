@@ -1,5 +1,5 @@
 // A chart's motions while they are read.
-ghost use Rattle.std.specs.Prelude.{◌+◌, ◌≤◌, length};
+ghost use Rattle.std.specs.Prelude.{◌≡◌, ◌+◌, ◌≤◌, length};
 
 use crate::head::Head;
 use chart::Motion;
@@ -18,10 +18,19 @@ pub struct Motions<'a> {
     pub(crate) chart: u16,
     pub(crate) start: u32,
     pub(crate) part: &'a [u8],
-    pub head: Head,
+    pub(crate) head: Head,
     pub(crate) at: usize,
     pub(crate) number: u32,
     ghost short: { length part.now ≤ 65536 },
     ghost within: { at ≤ length part.now },
     ghost few: { number + 2 ≤ at },
+}
+
+impl<'a> Motions<'a> {
+    // The chart's head.
+    pub fn head(&self) -> Head
+        ensures { result ≡ self.now.head }
+    {
+        self.head
+    }
 }

@@ -46,7 +46,7 @@ fn print_head(rt: &HostRuntime, number: u16, head: Head) -> io::Result<()> {
 fn print_chart(rt: &HostRuntime, book: &[u8], number: u16) -> io::Result<()> {
     let counted = book::count_motions(book, number);
     if let Ok(motions) = book::motions(book, number) {
-        print_head(rt, number, motions.head)?;
+        print_head(rt, number, motions.head())?;
         if let Ok(count) = counted {
             let s = plural(count.into());
             println!(rt; "{count} motion{s}")?;

@@ -37,7 +37,7 @@ loop-k-preserved c =
     let k = c.loop-k.k in
     let low = c.loop-k.invariant.0 in
     let o = c.pair-place.ensures.start in
-    let s = c.pair-place.ensures.len in
+    let s = c.pair-place.ensures.end in
     let e : n - k - 1 ≡ n - (k + 1) = omega arith in
     let next = least_next bs k in (
       omega arith,
