@@ -80,7 +80,7 @@ fn motion_of(bytes: &[u8], timers: Timers) -> Result<(Motion, usize), MotionFaul
         return Err(MotionFault::Cut);
     }
     let mut slots = [FILLER; 16];
-    // k gives the place. Zipped with `(2u8..).step_by(6)` for it, what the slots then hold is not proved by the check alone.
+    // k gives the place. Zipped with `(2u8..).step_by(6)` in its stead, what the slots hold at the end was not proved.
     for (k, slot) in slots[..count as usize].iter_mut().enumerate() {
         *slot = window_at(bytes, 2 + 6 * k as u8, timers)?;
     }

@@ -21,7 +21,7 @@ pub enum Sign {
     Equal,
 }
 
-// A byte that stands for nothing, where one is to stand for a sign, say, or for a chart's kind.
+// A byte that stands for nothing, where one for a sign or a kind is wanted.
 #[derive(Clone, Copy, PartialEq, Eq, Debug, Error)]
 #[error("the byte {0} stands for nothing")]
 pub struct UnknownByte(pub u8);

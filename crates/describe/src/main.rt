@@ -36,10 +36,12 @@ fn print_fault(rt: &HostRuntime, fault: BookFault) -> io::Result<()> {
 }
 
 fn print_head(rt: &HostRuntime, number: u16, head: Head) -> io::Result<()> {
-    let kind = head.kind;
     let timers = head.timers.count;
-    let s = plural(timers.into());
-    print!(rt; "Chart {number}: {kind}, {timers} timer{s}, ")
+    print!(rt;
+        "Chart {number}: {}, {timers} timer{}, ",
+        head.kind,
+        plural(timers.into())
+    )
 }
 
 // A chart's motions are told up to its end or its first fault.
@@ -48,8 +50,7 @@ fn print_chart(rt: &HostRuntime, book: &[u8], number: u16) -> io::Result<()> {
     if let Ok(motions) = book::motions(book, number) {
         print_head(rt, number, motions.head())?;
         if let Ok(count) = counted {
-            let s = plural(count.into());
-            println!(rt; "{count} motion{s}")?;
+            println!(rt; "{count} motion{}", plural(count.into()))?;
         } else {
             println!(rt; "refused")?;
         }
@@ -68,8 +69,7 @@ fn print_chart(rt: &HostRuntime, book: &[u8], number: u16) -> io::Result<()> {
 fn print_length(rt: &HostRuntime, book: &[u8]) -> io::Result<()> {
     let length = book.len() as u64;
     if length < MOST_READ {
-        let s = plural(length);
-        print!(rt; "A book of {length} byte{s}")
+        print!(rt; "A book of {length} byte{}", plural(length))
     } else {
         print!(rt; "A book of more than 65,536 bytes")
     }
@@ -79,8 +79,7 @@ fn describe(rt: &HostRuntime, book: &[u8]) -> io::Result<()> {
     print_length(rt, book)?;
     match book::charts(book) {
         Ok(count) => {
-            let s = plural(count.into());
-            println!(rt; ", {count} chart{s}")?;
+            println!(rt; ", {count} chart{}", plural(count.into()))?;
             for number in 1..=count {
                 println!(rt; "")?;
                 print_chart(rt, book, number)?;

@@ -13,7 +13,7 @@ use thiserror::Error;
 // Why a line spells no book.
 #[derive(Debug, Drop, Error)]
 enum NoBook {
-    #[error("is no hexadecimal")]
+    #[error("a book is spelled in hexadecimal")]
     Spelling,
     #[error(transparent)]
     Memory(#[from(alloc)] AllocError),
@@ -81,8 +81,7 @@ struct Case<'a> {
 
 impl<'a> Case<'a> {
     fn print_chart(&self, rt: &HostRuntime, number: u16) -> io::Result<()> {
-        let name = self.name;
-        print!(rt; "{name} {number}")?;
+        print!(rt; "{} {number}", self.name)?;
         match book::count_motions(self.book, number) {
             Ok(count) => println!(rt; " count {count}"),
             Err(fault) => print_fault(rt, fault),
@@ -123,8 +122,8 @@ fn print_line(rt: &HostRuntime, line: &str) -> io::Result<()> {
             };
             case.print(rt)
         }
+        Err(NoBook::Spelling) => println!(rt; "{name} is no hexadecimal"),
         Err(NoBook::Memory(e)) => Err(e.into()),
-        Err(fault) => println!(rt; "{name} {fault}"),
     }
 }
 
