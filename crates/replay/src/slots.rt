@@ -13,6 +13,7 @@ use faults::BoardFault;
 use runs::Name;
 
 // A board laid down while no call is made: its header, and its own table. A call resumes it.
+// What it stands for is no field of it: nothing in memory holds a chart, so each call speaks of any that it owns.
 #[derive(Drop)]
 pub struct Slot<B: Bound> {
     pub(crate) header: Header,
