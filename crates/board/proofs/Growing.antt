@@ -20,8 +20,8 @@ use Rattle.table.specs.Finds.{ChartTable, Finds, Kept}
 use Rattle.board.specs.declared.header.Header.{Header}
 use Rattle.board.specs.declared.header.State.{State}
 use Rattle.board.specs.declared.header.State.TheVariants.{Blank, Runs, Never}
-use Rattle.board.specs.Standing.{Standing, charted, with_motion}
-use Rattle.board.specs.Calls.{TooLarge, ReadIs, places, work_places}
+use Rattle.board.specs.Standing.{Standing, blank, charted, with_motion}
+use Rattle.board.specs.Calls.{TooLarge, NoPair, ReadIs, places, work_places}
 use Rattle.board.specs.Left.{Cleared, RefusedWork, TableLeft, WorkLeft}
 use Rattle.board.specs.Holding.{StateIs, Holds, StandsFor, TimersAre}
 use Rattle.board.specs.Done.{MotionDone, JoinDone}
@@ -128,6 +128,17 @@ module _ {B : Type 0} (m : Meaning B) (laws : Laws m) (n : Timers) (h : Header) 
     motion_settled = done h' after work' (with_used used r) (λ c holds. settled c holds r (one_more c holds))
 
 -- ── A join ──
+
+-- refused for what the other board is
+pub join_refused : {B : Type 0} (m : Meaning B) (h : Header) (before work : List B) (f : BoardFault) (s t : Standing) → StandsFor m h before s → NoPair s t f
+    → JoinDone m (length work) h before before work work (Err f) s t
+join_refused m h before work f blank t st e =
+    subst (λ (x : BoardFault). JoinDone m (length work) h before before work work (Err x) blank t) (sym e) (record { answer = refl; stands = st; table = refl; lent = refl })
+join_refused m h before work f (charted n c) blank st e =
+    subst (λ (x : BoardFault). JoinDone m (length work) h before before work work (Err x) (charted n c) blank) (sym e) (record { answer = refl; stands = st; table = refl; lent = refl })
+join_refused m h before work f (charted n c) (charted k d) st (ne, e) =
+    subst (λ (x : BoardFault). JoinDone m (length work) h before before work work (Err x) (charted n c) (charted k d)) (sym e)
+    (record { answer = inr (ne, refl); stands = st; table = refl; lent = refl })
 
 module _ {B : Type 0} (m : Meaning B) (laws : Laws m) (n k : Timers) (h e : Header) (before other work : List B)
     (are : TimersAre h (length before) (Ok n)) (others_are : TimersAre e (length other) (Ok k)) (same : n.count ≡ k.count) (fits : work_places n.count ≤ length work) where

@@ -1,9 +1,10 @@
 -- What the calls that change nothing tell of the charts that boards stand for. Assumes nothing.
-use Rattle.std.proofs.Common.{◌≡◌, ℕ, ◌+◌, ◌*◌, false, List, length, Some, None, Ok, Err, Option, sym, refl, ◌∙◌, subst, inl, inr, arith}
+use Rattle.std.proofs.Common.{◌≡◌, ℕ, ◌+◌, ◌*◌, false, List, length, Some, None, Ok, Err, Option, sym, refl, ap, ◌∙◌, subst, inl, inr, arith}
 use Rattle.std.proofs.lemmas.Bool.{false≢true}
 use Rattle.bound.specs.Meaning.{Meaning, Laws}
 use Rattle.chart.specs.declared.types.Timers.{Timers}
 use Rattle.chart.specs.Charts.{Chart}
+use Rattle.faults.specs.declared.types.BoardFault.{BoardFault}
 use Rattle.faults.specs.declared.types.BoardFault.TheVariants as fault
 use Rattle.runs.specs.Runs.{HasRun}
 use Rattle.runs.specs.Graph as graph
@@ -21,7 +22,7 @@ use Rattle.board.specs.declared.header.Header.{Header}
 use Rattle.board.specs.declared.header.State.{State}
 use Rattle.board.specs.declared.header.State.TheVariants.{Blank, Runs, Never}
 use Rattle.board.specs.Standing.{Standing, blank, charted}
-use Rattle.board.specs.Calls.{no_limit, Compares, RunsIs, WithinIs, LimitIs, SpanIs}
+use Rattle.board.specs.Calls.{no_limit, Compares, RunsIs, WithinIs, LimitIs, SpanIs, NoRun, NoPair}
 use Rattle.board.specs.Holding.{Holds, StandsFor, TimersAre}
 use Rattle.board.proofs.Standings.{when_opened, has_table, has_chain}
 
@@ -82,13 +83,11 @@ module _ {B : Type 0} (m : Meaning B) (laws : Laws m) (h : Header) (table : List
   runs_never e blank st = absurd (only_one h.state st e)
   runs_never e (charted n c) holds = (false, refl, (λ f. absurd (false≢true f), λ run. absurd (no_run n c e holds run)))
 
+  pub never_refused : h.state ≡ Never → (s : Standing) → StandsFor m h table s → NoRun m s fault.Never
+  never_refused e blank st = absurd (only_one h.state st e)
+  never_refused e (charted n c) holds = (no_run n c e holds, refl)
+
   module _ (n : Timers) (are : TimersAre h (length table) (Ok n)) where
-    pub limit_never : h.state ≡ Never → (l : Name) (s : Standing) → StandsFor m h table s → LimitIs m s l (Err fault.Never)
-    limit_never e l = when_opened m h table n are.1 are.0 (λ s. LimitIs m s l (Err fault.Never)) (λ c holds. inr (no_run n c e holds, refl))
-
-    pub span_never : h.state ≡ Never → (s : Standing) → StandsFor m h table s → SpanIs m s (Err fault.Never)
-    span_never e = when_opened m h table n are.1 are.0 (λ s. SpanIs m s (Err fault.Never)) (λ c holds. inr (no_run n c e holds, refl))
-
     pub limit_answered : h.state ≡ Runs → (l : Name) → NameOf n.count l → (bound : B) → (Small m (2 * n.count + 2) table → IsLimit m n.count table l bound)
         → (s : Standing) → StandsFor m h table s → LimitIs m s l (Ok bound)
     limit_answered e l of bound is =
@@ -136,6 +135,11 @@ module _ {B : Type 0} (m : Meaning B) (laws : Laws m) (n : ℕ) (c d : Chart) wh
         },
       ),
     )
+
+pub within_refused : {B : Type 0} (m : Meaning B) (s t : Standing) (f : BoardFault) → NoPair s t f → WithinIs m s t (Err f)
+within_refused m blank t f e = ap Err e
+within_refused m (charted n c) blank f e = ap Err e
+within_refused m (charted n c) (charted k d) f (ne, e) = inr (ne, ap Err e)
 
 -- two opened boards of as many timers
 module _ {B : Type 0} (m : Meaning B) (laws : Laws m) (h h' : Header) (table other : List B) (n k : Timers) (are : TimersAre h (length table) (Ok n)) (are' : TimersAre h' (length other) (Ok k))

@@ -35,6 +35,12 @@ work_places n = (3 * n + 3) * (3 * n + 3)
 abbrev pub TooLarge : {B : Type 0} → Meaning B → ℕ → Chart → Type 0
 TooLarge m n c = HasRun m.differences n c × Large m n c
 
+-- how a call is refused that takes two opened boards of as many timers
+abbrev pub NoPair : Standing → Standing → BoardFault → Type 0
+NoPair blank other f = f ≡ fault.Blank
+NoPair (charted n c) blank f = f ≡ fault.Blank
+NoPair (charted n c) (charted k d) f = (n.count ≡ k.count → ⊥) × (f ≡ fault.Differ)
+
 -- ── Open, motion, join ──
 
 abbrev pub OpenIs : (room n : ℕ) → Result (Unit {0}) BoardFault → Type 0
@@ -102,6 +108,11 @@ WithinIs m (charted n c) (charted k d) r =
     Needs r fault.Differ (n.count ≡ k.count) ((answer : Option Name) × (r ≡ Ok answer) × Compares m n.count c d answer)
 
 -- ── Limit, span ──
+
+-- how a call is refused that needs a chart that runs
+abbrev pub NoRun : {B : Type 0} → Meaning B → Standing → BoardFault → Type 0
+NoRun m blank f = f ≡ fault.Blank
+NoRun m (charted n c) f = (HasRun m.differences n.count c → ⊥) × (f ≡ fault.Never)
 
 -- the bound is the tighter of the two sums of places of the chart's normalised table, and it is sharp
 pub record LimitOf {B : Type 0} (m : Meaning B) (n : ℕ) (c : Chart) (l : Name) (bound : B) : Type 0 where

@@ -1,7 +1,7 @@
 // The calls on a board. None has a `requires`: they refuse.
-ghost use Rattle.std.specs.Prelude.{◌≡◌, ◌+◌, ◌*◌, ◌≤◌, length, is_ok, if◌then◌else◌};
+ghost use Rattle.std.specs.Prelude.{◌≡◌, ◌+◌, ◌*◌, ◌≤◌, Ok, MatchResult, length, is_ok, if◌then◌else◌};
 ghost use Rattle.board.specs.Standing.{Standing, blank, opened};
-ghost use Rattle.board.specs.Calls.{OpenIs, RunsIs, CountIs, WithinIs, LimitIs, SpanIs};
+ghost use Rattle.board.specs.Calls.{OpenIs, RunsIs, CountIs, WithinIs, LimitIs, SpanIs, NoRun, NoPair};
 ghost use Rattle.board.specs.Done.{MotionDone, JoinDone};
 ghost use Rattle.board.specs.Left.{TableLeft};
 ghost use Rattle.board.specs.Holding.{Stands, TimersAre};
@@ -55,6 +55,19 @@ impl<'a, B: Bound> Board<'a, B> {
         Ok(timers)
     }
 
+    // The timers of this board and of another, where both are opened and have as many.
+    fn shared_timers(&self, other: &Board<B>) -> Result<Timers, BoardFault>
+        ensures { MatchResult result
+            (λ n. TimersAre self.now.header (length self.now.table.now) (Ok n) × TimersAre other.now.header (length other.now.table.now) (Ok n))
+            (λ f. (s t : Standing) → Stands B.meaning self.now s → Stands B.meaning other.now t → NoPair s t f) }
+    {
+        let timers = self.timers()?;
+        if timers != other.timers()? {
+            return Err(BoardFault::Differ);
+        }
+        Ok(timers)
+    }
+
     // Makes the board one of `n` timers with the empty chart, in any state.
     pub fn open(&mut self, n: u8) -> Result<(), BoardFault>
         ensures answer { OpenIs (length self.old.table.now) n result }
@@ -100,11 +113,7 @@ impl<'a, B: Bound> Board<'a, B> {
         ensures done { (s t : Standing) → Stands B.meaning self.old s → Stands B.meaning other.now t → JoinDone B.meaning (length work.old) self.new.header self.old.table.now self.new.table.now work.old work.new result s t }
         ensures named { self.new.table.ghost_name ≡ self.old.table.ghost_name }
     {
-        let timers = self.timers()?;
-        let others = other.timers()?;
-        if timers != others {
-            return Err(BoardFault::Differ);
-        }
+        let timers = self.shared_timers(other)?;
         let needed = places::<WORK>(timers);
         if work.len() < needed {
             return Err(BoardFault::Work);
@@ -151,11 +160,7 @@ impl<'a, B: Bound> Board<'a, B> {
     pub fn within(&self, other: &Board<B>) -> Result<Option<Name>, BoardFault>
         ensures { (s t : Standing) → Stands B.meaning self.now s → Stands B.meaning other.now t → WithinIs B.meaning s t result }
     {
-        let timers = self.timers()?;
-        let others = other.timers()?;
-        if timers != others {
-            return Err(BoardFault::Differ);
-        }
+        let timers = self.shared_timers(other)?;
         if self.header.state == State::Never {
             return Ok(None);
         }
@@ -170,21 +175,30 @@ impl<'a, B: Bound> Board<'a, B> {
         Ok(tables.first_looser())
     }
 
-    // The limit under a name.
-    pub fn limit(&self, name: Name) -> Result<B, BoardFault>
-        ensures { (s : Standing) → Stands B.meaning self.now s → LimitIs B.meaning s name result }
+    // The table of an opened board whose chart runs.
+    fn running(&self) -> Result<Table<'_, B>, BoardFault>
+        ensures { MatchResult result
+            (λ t. (self.now.header.state ≡ State.Runs) × (t.cells.now ≡ self.now.table.now) × TimersAre self.now.header (length self.now.table.now) (Ok t.timers))
+            (λ f. (s : Standing) → Stands B.meaning self.now s → NoRun B.meaning s f) }
     {
         let timers = self.timers()?;
         if self.header.state == State::Never {
             return Err(BoardFault::Never);
         }
-        if !table::is_name(name, timers) {
-            return Err(BoardFault::Name);
-        }
-        let table = Table {
+        Ok(Table {
             cells: self.table,
             timers,
-        };
+        })
+    }
+
+    // The limit under a name.
+    pub fn limit(&self, name: Name) -> Result<B, BoardFault>
+        ensures { (s : Standing) → Stands B.meaning self.now s → LimitIs B.meaning s name result }
+    {
+        let table = self.running()?;
+        if !table::is_name(name, table.timers) {
+            return Err(BoardFault::Name);
+        }
         Ok(table.limit(name))
     }
 
@@ -192,15 +206,8 @@ impl<'a, B: Bound> Board<'a, B> {
     pub fn span(&self) -> Result<(B, B), BoardFault>
         ensures { (s : Standing) → Stands B.meaning self.now s → SpanIs B.meaning s result }
     {
-        let timers = self.timers()?;
-        if self.header.state == State::Never {
-            return Err(BoardFault::Never);
-        }
-        let end = timers.count as usize + 1;
-        let table = Table {
-            cells: self.table,
-            timers,
-        };
+        let table = self.running()?;
+        let end = table.timers.count as usize + 1;
         Ok((table.read(end, 0), table.read(0, end)))
     }
 }

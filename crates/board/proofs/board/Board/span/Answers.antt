@@ -1,15 +1,7 @@
-use Rattle.std.proofs.Common.{◌≡◌, rules, arith}
-use Rattle.std.proofs.lemmas.Grind.{common_steps}
-use Rattle.board.specs.declared.header.State.TheVariants.{Runs, Never}
-use Rattle.board.proofs.Telling.{span_never, span_answered}
+use Rattle.board.proofs.Telling.{span_answered}
 use Rattle.board.proofs.board.Board.span.Goals as goal
-
-pub returns-then-eq : goal.returns-then-eq
-returns-then-eq g c =
-    let is : c.args.self.now.header.state ≡ Never = search rules in
-    span_never g.B.Bound.meaning g.met.B.Bound.lawful _ _ _ c.in_ok-timers.ensures is
 
 pub returns : goal.returns
 returns g c =
-    let is : c.args.self.now.header.state ≡ Runs = grind (arith, common_steps, c.in_ok-timers.ensures) in
-    span_answered g.B.Bound.meaning g.met.B.Bound.lawful _ _ _ c.in_ok-timers.ensures is _ _ c.read.ensures c.read-2.ensures
+    let its = c.in_ok-table.ensures in
+    span_answered g.B.Bound.meaning g.met.B.Bound.lawful _ _ _ its.2 its.0 _ _ (rw its.1 at c.read.ensures) (rw its.1 at c.read-2.ensures)
