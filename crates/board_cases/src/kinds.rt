@@ -28,14 +28,14 @@ impl Kind for Tick {
 
 impl Kind for Edge {
     fn filler() -> Edge {
-        Edge::Number(7, Mark::AtMost)
+        Edge::Number(Mark::AtMost, 7)
     }
 
     fn parts(self) -> Option<(&'static str, i64)> {
         match self {
             Edge::Open => None,
-            Edge::Number(c, Mark::AtMost) => Some(("<=", c)),
-            Edge::Number(c, Mark::Under) => Some(("<", c)),
+            Edge::Number(Mark::AtMost, c) => Some(("<=", c)),
+            Edge::Number(Mark::Under, c) => Some(("<", c)),
         }
     }
 }

@@ -38,19 +38,19 @@ fractions = record { Diff = Fraction; le = fraction_le; add = fraction_add; neg 
 
 abbrev pub edge_allows : Edge → Fraction → Type 0
 edge_allows Open d = Unit {0}
-edge_allows (Number c AtMost) d = fraction_le d (fraction_whole c)
-edge_allows (Number c Under) d = Less fractions d (fraction_whole c)
+edge_allows (Number AtMost c) d = fraction_le d (fraction_whole c)
+edge_allows (Number Under c) d = Less fractions d (fraction_whole c)
 
 abbrev pub mark_of : Bool → Mark
 mark_of true = Under
 mark_of false = AtMost
 
 abbrev pub edge_written : Bool → ℤ → Option Edge
-edge_written strict c = up_to (2 ^ 34) (unsigned_abs c) (Number c (mark_of strict))
+edge_written strict c = up_to (2 ^ 34) (unsigned_abs c) (Number (mark_of strict) c)
 
 abbrev pub edge_size : Edge → ℕ
 edge_size Open = 0
-edge_size (Number c m) = unsigned_abs c
+edge_size (Number m c) = unsigned_abs c
 
 -- under where one of the two is
 abbrev pub mark_plus : Mark → Mark → Mark
@@ -60,8 +60,8 @@ mark_plus Under n = Under
 -- the sum, whatever the sizes
 abbrev pub edge_plus : Edge → Edge → Edge
 edge_plus Open b = Open
-edge_plus (Number a m) Open = Open
-edge_plus (Number a m) (Number b n) = Number (a +ℤ b) (mark_plus m n)
+edge_plus (Number m a) Open = Open
+edge_plus (Number m a) (Number n b) = Number (mark_plus m n) (a +ℤ b)
 
 abbrev pub edge_sum : Edge → Edge → Option Edge
 edge_sum a b = up_to (2 ^ 50) (edge_size a + edge_size b) (edge_plus a b)
@@ -75,9 +75,9 @@ mark_tighter Under n = true
 -- where the marks permit equal numbers, at most the other number, and else under it
 abbrev pub edge_tighter : Edge → Edge → Bool
 edge_tighter Open Open = true
-edge_tighter Open (Number b n) = false
-edge_tighter (Number a m) Open = true
-edge_tighter (Number a m) (Number b n) = cond (mark_tighter m n) (int_le a b) (int_lt a b)
+edge_tighter Open (Number n b) = false
+edge_tighter (Number m a) Open = true
+edge_tighter (Number m a) (Number n b) = cond (mark_tighter m n) (int_le a b) (int_lt a b)
 
 abbrev pub edge_meaning : Meaning Edge
 edge_meaning =

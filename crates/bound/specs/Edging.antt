@@ -17,10 +17,10 @@ use Rattle.bound.specs.declared.edge.Mark.TheVariants.{AtMost, Under}
 
 lower : (b : Edge) (d e : Fraction) → fraction_le e d → edge_allows b d → edge_allows b e
 lower Open d e p h = tt
-lower (Number c AtMost) d e p h = ordered.le_trans e d (fraction_whole c) p h
-lower (Number c Under) d e p h = le_less ordered e d (fraction_whole c) p h
+lower (Number AtMost c) d e p h = ordered.le_trans e d (fraction_whole c) p h
+lower (Number Under c) d e p h = le_less ordered e d (fraction_whole c) p h
 
-written_allows : (strict : Bool) (c : ℤ) (d : Fraction) → edge_allows (Number c (mark_of strict)) d ↔ Stands fractions strict d c
+written_allows : (strict : Bool) (c : ℤ) (d : Fraction) → edge_allows (Number (mark_of strict) c) d ↔ Stands fractions strict d c
 written_allows true c d = (λ h. h, λ h. h)
 written_allows false c d = (λ h. h, λ h. h)
 
@@ -51,14 +51,14 @@ minus_less d a b h = sub_less ordered d (fraction_whole a) (fraction_whole b) (l
 
 sum_splits : (a b : Edge) (d : Fraction) → edge_allows (edge_plus a b) d → SumOf edge_meaning a b d
 sum_splits Open Open d h = (minus d (pos 0), fraction_whole (pos 0), tt, tt, back d (pos 0))
-sum_splits Open (Number b AtMost) d h = (minus d b, fraction_whole b, tt, at_most b, back d b)
-sum_splits Open (Number b Under) d h = (minus d (b -ℤ pos 1), fraction_whole (b -ℤ pos 1), tt, under b, back d (b -ℤ pos 1))
-sum_splits (Number a AtMost) Open d h = (fraction_whole a, minus d a, at_most a, tt, front d a)
-sum_splits (Number a AtMost) (Number b AtMost) d h = (minus d b, fraction_whole b, minus_le d a b h, at_most b, back d b)
-sum_splits (Number a AtMost) (Number b Under) d h = (fraction_whole a, minus d a, at_most a, minus_less d b a (rw (+ℤ_comm b a) h), front d a)
-sum_splits (Number a Under) Open d h = (fraction_whole (a -ℤ pos 1), minus d (a -ℤ pos 1), under a, tt, front d (a -ℤ pos 1))
-sum_splits (Number a Under) (Number b AtMost) d h = (minus d b, fraction_whole b, minus_less d a b h, at_most b, back d b)
-sum_splits (Number a Under) (Number b Under) d h = (half_up d (a -ℤ b), half_down d (a -ℤ b), half_up_less d a b h, half_down_less d a b h, halves d (a -ℤ b))
+sum_splits Open (Number AtMost b) d h = (minus d b, fraction_whole b, tt, at_most b, back d b)
+sum_splits Open (Number Under b) d h = (minus d (b -ℤ pos 1), fraction_whole (b -ℤ pos 1), tt, under b, back d (b -ℤ pos 1))
+sum_splits (Number AtMost a) Open d h = (fraction_whole a, minus d a, at_most a, tt, front d a)
+sum_splits (Number AtMost a) (Number AtMost b) d h = (minus d b, fraction_whole b, minus_le d a b h, at_most b, back d b)
+sum_splits (Number AtMost a) (Number Under b) d h = (fraction_whole a, minus d a, at_most a, minus_less d b a (rw (+ℤ_comm b a) h), front d a)
+sum_splits (Number Under a) Open d h = (fraction_whole (a -ℤ pos 1), minus d (a -ℤ pos 1), under a, tt, front d (a -ℤ pos 1))
+sum_splits (Number Under a) (Number AtMost b) d h = (minus d b, fraction_whole b, minus_less d a b h, at_most b, back d b)
+sum_splits (Number Under a) (Number Under b) d h = (half_up d (a -ℤ b), half_down d (a -ℤ b), half_up_less d a b h, half_down_less d a b h, halves d (a -ℤ b))
 
 -- d at most e + f, with e within a and f within b, is within a + b
 joined_le : (d e f : Fraction) (a b : ℤ) → fraction_le d (fraction_add e f) → fraction_le (fraction_add e f) (fraction_add (fraction_whole a) (fraction_whole b)) → fraction_le d (fraction_whole (a +ℤ b))
@@ -71,16 +71,16 @@ joined_less d e f a b h k = le_less ordered _ _ _ h (less_le ordered _ _ _ k (or
 
 sum_joins : (a b : Edge) (d : Fraction) → SumOf edge_meaning a b d → edge_allows (edge_plus a b) d
 sum_joins Open b d s = tt
-sum_joins (Number a m) Open d s = tt
-sum_joins (Number a AtMost) (Number b AtMost) d (e, f, p, q, r) = joined_le d e f a b r.0 (add-≤ ordered p q)
-sum_joins (Number a AtMost) (Number b Under) d (e, f, p, q, r) = joined_less d e f a b r.0 (add_less_right ordered _ _ _ _ p q)
-sum_joins (Number a Under) (Number b AtMost) d (e, f, p, q, r) = joined_less d e f a b r.0 (add_less_left ordered _ _ _ _ p q)
-sum_joins (Number a Under) (Number b Under) d (e, f, p, q, r) = joined_less d e f a b r.0 (add_less_left ordered _ _ _ _ p q.0)
+sum_joins (Number m a) Open d s = tt
+sum_joins (Number AtMost a) (Number AtMost b) d (e, f, p, q, r) = joined_le d e f a b r.0 (add-≤ ordered p q)
+sum_joins (Number AtMost a) (Number Under b) d (e, f, p, q, r) = joined_less d e f a b r.0 (add_less_right ordered _ _ _ _ p q)
+sum_joins (Number Under a) (Number AtMost b) d (e, f, p, q, r) = joined_less d e f a b r.0 (add_less_left ordered _ _ _ _ p q)
+sum_joins (Number Under a) (Number Under b) d (e, f, p, q, r) = joined_less d e f a b r.0 (add_less_left ordered _ _ _ _ p q.0)
 
 sum_size : (a b : Edge) → edge_size (edge_plus a b) ≤ edge_size a + edge_size b
 sum_size Open b = omega arith
-sum_size (Number a m) Open = omega arith
-sum_size (Number a m) (Number b n) = omega (arith, ints)
+sum_size (Number m a) Open = omega arith
+sum_size (Number m a) (Number n b) = omega (arith, ints)
 
 -- ---- the tighter of two
 whole_less : (a b : ℤ) → a <ℤ b → Less fractions (fraction_whole a) (fraction_whole b)
@@ -100,12 +100,12 @@ yes_lt a b e = omega (arith, ints)
 
 tighter_yes : (a b : Edge) → edge_tighter a b ≡ true → Inside edge_meaning a b
 tighter_yes Open Open e d h = tt
-tighter_yes Open (Number b n) e d h = never (sym e)
-tighter_yes (Number a m) Open e d h = tt
-tighter_yes (Number a AtMost) (Number b AtMost) e d h = ordered.le_trans _ _ _ h (yes_le a b e)
-tighter_yes (Number a AtMost) (Number b Under) e d h = le_less ordered _ _ _ h (whole_less a b (yes_lt a b e))
-tighter_yes (Number a Under) (Number b AtMost) e d h = ordered.le_trans _ _ _ h.0 (yes_le a b e)
-tighter_yes (Number a Under) (Number b Under) e d h = less_le ordered _ _ _ h (yes_le a b e)
+tighter_yes Open (Number n b) e d h = never (sym e)
+tighter_yes (Number m a) Open e d h = tt
+tighter_yes (Number AtMost a) (Number AtMost b) e d h = ordered.le_trans _ _ _ h (yes_le a b e)
+tighter_yes (Number AtMost a) (Number Under b) e d h = le_less ordered _ _ _ h (whole_less a b (yes_lt a b e))
+tighter_yes (Number Under a) (Number AtMost b) e d h = ordered.le_trans _ _ _ h.0 (yes_le a b e)
+tighter_yes (Number Under a) (Number Under b) e d h = less_le ordered _ _ _ h (yes_le a b e)
 
 -- the test failed
 no_le : (a b : ℤ) → int_le a b ≡ false → b <ℤ a
@@ -120,16 +120,16 @@ above b h = omega (arith, ints, le_out (fraction_whole (b +ℤ pos 1)) (fraction
 
 tighter_no : (a b : Edge) → edge_tighter a b ≡ false → Outside edge_meaning a b
 tighter_no Open Open e = never e
-tighter_no Open (Number b AtMost) e = (fraction_whole (b +ℤ pos 1), tt, above b)
-tighter_no Open (Number b Under) e = (fraction_whole (b +ℤ pos 1), tt, λ h. above b h.0)
-tighter_no (Number a m) Open e = never e
-tighter_no (Number a AtMost) (Number b AtMost) e = (fraction_whole a, at_most a, (whole_less b a (no_le a b e)).1)
-tighter_no (Number a AtMost) (Number b Under) e = (fraction_whole a, at_most a, λ h. h.1 (no_lt a b e))
-tighter_no (Number a Under) (Number b AtMost) e = let (d, over, below) = between b a (no_le a b e) in (d, below, over.1)
-tighter_no (Number a Under) (Number b Under) e = (fraction_whole b, whole_less b a (no_le a b e), λ h. h.1 (at_most b))
+tighter_no Open (Number AtMost b) e = (fraction_whole (b +ℤ pos 1), tt, above b)
+tighter_no Open (Number Under b) e = (fraction_whole (b +ℤ pos 1), tt, λ h. above b h.0)
+tighter_no (Number m a) Open e = never e
+tighter_no (Number AtMost a) (Number AtMost b) e = (fraction_whole a, at_most a, (whole_less b a (no_le a b e)).1)
+tighter_no (Number AtMost a) (Number Under b) e = (fraction_whole a, at_most a, λ h. h.1 (no_lt a b e))
+tighter_no (Number Under a) (Number AtMost b) e = let (d, over, below) = between b a (no_le a b e) in (d, below, over.1)
+tighter_no (Number Under a) (Number Under b) e = (fraction_whole b, whole_less b a (no_le a b e), λ h. h.1 (at_most b))
 
 -- a tighter number is no larger, whatever the marks
-no_larger : (m n : Mark) (a b : ℤ) → edge_tighter (Number a m) (Number b n) ≡ true → a ≤ℤ b
+no_larger : (m n : Mark) (a b : ℤ) → edge_tighter (Number m a) (Number n b) ≡ true → a ≤ℤ b
 no_larger AtMost AtMost a b e = omega (arith, ints)
 no_larger AtMost Under a b e = omega (arith, ints)
 no_larger Under n a b e = omega (arith, ints)
@@ -137,9 +137,9 @@ no_larger Under n a b e = omega (arith, ints)
 -- tighter both ways is the same number
 both_ways : (a b : Edge) → edge_tighter a b ≡ true → edge_tighter b a ≡ true → edge_size a ≡ edge_size b
 both_ways Open Open p q = refl
-both_ways Open (Number b n) p q = never (sym p)
-both_ways (Number a m) Open p q = never (sym q)
-both_ways (Number a m) (Number b n) p q = omega (arith, ints, no_larger m n a b p, no_larger n m b a q)
+both_ways Open (Number n b) p q = never (sym p)
+both_ways (Number m a) Open p q = never (sym q)
+both_ways (Number m a) (Number n b) p q = omega (arith, ints, no_larger m n a b p, no_larger n m b a q)
 
 -- what lies inside is found tighter
 inside : (a b : Edge) → Inside edge_meaning a b → edge_tighter a b ≡ true
@@ -156,7 +156,7 @@ lawful =
       range_enough = lit≤ tt;
       reach_enough = lit≤ tt;
       lower = lower;
-      written_none = λ strict c. none_above (Number c (mark_of strict)) (unsigned_abs c) (2 ^ 34);
+      written_none = λ strict c. none_above (Number (mark_of strict) c) (unsigned_abs c) (2 ^ 34);
       written_allows = λ strict c b e. subst (λ (x : Edge). (d : Fraction) → edge_allows x d ↔ Stands fractions strict d c) (some_is _ _ _ _ e) (written_allows strict c);
       written_size = λ strict c b e. subst (λ (x : Edge). edge_size x ≤ unsigned_abs c + 1) (some_is _ _ _ _ e) (omega arith);
       open_allows = λ d. tt;

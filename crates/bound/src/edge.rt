@@ -1,10 +1,16 @@
 // Fractions: a bound is open, or a whole number marked "at most" or "under".
-ghost use Rattle.std.specs.Prelude.{◌≡◌};
+ghost use Rattle.std.specs.Prelude.{◌≡◌, refl};
+ghost use Rattle.std.proofs.Common.{rules};
+ghost use Rattle.std.specs.Ordering.{as_partial_cmp};
+ghost use Rattle.std.specs.Cmp.{po};
+ghost use Rattle.std.specs.Cmp.Rules.{comparing};
+ghost use Rattle.bound.specs.Orders.{edge_cmp, edge_total};
 ghost use Rattle.bound.specs.Edges.{edge_meaning};
 ghost use Rattle.bound.specs.Edging;
 
 use crate::Bound;
 use crate::sizes::{in_range, within_reach};
+use std::cmp::Ordering;
 
 // In order from the tighter.
 #[derive(Clone, Copy, PartialEq, Eq, PartialOrd, Ord, Debug)]
@@ -13,11 +19,43 @@ pub enum Mark {
     AtMost,
 }
 
-// In order from the tightest: by the number, then by the mark, with the open one last (an Option would have its None first).
-#[derive(Clone, Copy, PartialEq, Eq, PartialOrd, Ord, Debug)]
+// The mark stands before the number, since fields lie in the order of the source: behind the number it would make
+// each bound, and so each table, half as large again. The open one stands first, as Tick's does. The order has the
+// number first and the open one last, so it is not derived.
+#[derive(Clone, Copy, PartialEq, Eq, Debug)]
 pub enum Edge {
-    Number(i64, Mark),
     Open,
+    Number(Mark, i64),
+}
+
+// In order from the tightest: by the number, then by the mark, with the open one last.
+impl Ord for Edge {
+    ghost cmp = { edge_cmp };
+
+    ghost total = { edge_total };
+
+    ghost matches_partial_cmp = { λ x y. refl };
+
+    ghost matches_eq = { Prim.search (comparing, rules) };
+
+    fn cmp(&self, other: &Edge) -> Ordering {
+        match (*self, *other) {
+            (Edge::Open, Edge::Open) => Ordering::Equal,
+            (Edge::Open, Edge::Number(_, _)) => Ordering::Greater,
+            (Edge::Number(_, _), Edge::Open) => Ordering::Less,
+            (Edge::Number(m, a), Edge::Number(n, b)) => a.cmp(&b).then(m.cmp(&n)),
+        }
+    }
+}
+
+impl PartialOrd for Edge {
+    ghost partial_cmp = { as_partial_cmp edge_cmp };
+
+    ghost laws = { po edge_total (Prim.search (comparing, rules)) };
+
+    fn partial_cmp(&self, other: &Edge) -> Option<Ordering> {
+        Some(self.cmp(other))
+    }
 }
 
 impl Bound for Edge {
@@ -26,7 +64,7 @@ impl Bound for Edge {
     ghost lawful = { Edging.lawful };
 
     fn written(strict: bool, c: i64) -> Option<Edge> {
-        in_range(c).map(|c| Edge::Number(c, if strict { Mark::Under } else { Mark::AtMost }))
+        in_range(c).map(|c| Edge::Number(if strict { Mark::Under } else { Mark::AtMost }, c))
     }
 
     fn open() -> Edge {
@@ -40,19 +78,24 @@ impl Bound for Edge {
 
     fn plus(self, other: Edge) -> Edge {
         match (self, other) {
-            (Edge::Number(a, m), Edge::Number(b, n)) => Edge::Number(a + b, m.min(n)),
+            (Edge::Number(m, a), Edge::Number(n, b)) => Edge::Number(m.min(n), a + b),
             _ => Edge::Open,
         }
     }
 
+    // As `self <= other` (proofs/Ordered), but by cases, as Tick's. The marks matter only between equal numbers.
     fn tighter(self, other: Edge) -> bool {
-        self <= other
+        match (self, other) {
+            (_, Edge::Open) => true,
+            (Edge::Open, Edge::Number(_, _)) => false,
+            (Edge::Number(m, a), Edge::Number(n, b)) => a < b || (a == b && m <= n),
+        }
     }
 
     fn size(self) -> u64 {
         match self {
             Edge::Open => 0,
-            Edge::Number(c, _) => c.unsigned_abs(),
+            Edge::Number(_, c) => c.unsigned_abs(),
         }
     }
 }
@@ -67,15 +110,15 @@ mod tests {
     const REACH: i64 = 1_125_899_906_842_624;
 
     fn le(c: i64) -> Edge
-        ensures { result ≡ Edge.Number c Mark.AtMost }
+        ensures { result ≡ Edge.Number Mark.AtMost c }
     {
-        Edge::Number(c, Mark::AtMost)
+        Edge::Number(Mark::AtMost, c)
     }
 
     fn lt(c: i64) -> Edge
-        ensures { result ≡ Edge.Number c Mark.Under }
+        ensures { result ≡ Edge.Number Mark.Under c }
     {
-        Edge::Number(c, Mark::Under)
+        Edge::Number(Mark::Under, c)
     }
 
     // The values and the answers are this kind's own, and so is the test.
@@ -108,6 +151,7 @@ mod tests {
         ] {
             assert_eq!(rt; a.sum(b), sum);
             assert_eq!(rt; a.tighter(b), tighter);
+            assert_eq!(rt; a <= b, tighter);
         }
         assert_eq!(rt; lt(5).plus(le(-3)), lt(2));
     }

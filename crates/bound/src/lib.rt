@@ -60,12 +60,15 @@ pub fn keep_tighter<B: Bound>(a: B, b: B) -> B
     if a.tighter(b) { a } else { b }
 }
 
-// Keeps the tighter of two bounds in place.
+// Keeps the tighter of two bounds in place; writes only where that changes it.
+#[tactic(auto, using(crate::proofs::Lawful::tighter_else))]
 pub fn tighten<B: Bound>(held: &mut B, bound: B)
     ensures value { held.new ≡ tighter_of B.meaning held.old bound }
     ensures both { Both B.meaning held.old bound held.new }
 {
-    *held = keep_tighter(*held, bound);
+    if !held.tighter(bound) {
+        *held = bound;
+    }
 }
 
 // Whether the bound allows the difference 0: it does where it allows all that "≤ 0" does.
@@ -85,12 +88,12 @@ mod tests {
 
     #[test]
     fn tightest(rt: HostRuntime) {
-        let mut held = Edge::Number(0, Mark::AtMost);
+        let mut held = Edge::Number(Mark::AtMost, 0);
         assert!(rt; allows_zero(held));
         tighten(&mut held, Edge::Open);
         assert_eq!(rt; held, zero());
-        tighten(&mut held, Edge::Number(0, Mark::Under));
-        assert_eq!(rt; held, Edge::Number(0, Mark::Under));
+        tighten(&mut held, Edge::Number(Mark::Under, 0));
+        assert_eq!(rt; held, Edge::Number(Mark::Under, 0));
         assert!(rt; !allows_zero(held));
         assert_eq!(rt; keep_tighter(Tick::Open, zero()), Tick::AtMost(0));
         assert_eq!(rt; keep_tighter(Tick::AtMost(-1), zero()), Tick::AtMost(-1));

@@ -13,9 +13,10 @@ pub fn in_range(c: i64) -> Option<i64>
     (c.unsigned_abs() <= RANGE).then_some(c)
 }
 
-// Whether two sizes added stay within the reach; the sum itself might not fit.
+// Whether two sizes added stay within the reach; the sum itself might not fit. What the first leaves is the same
+// for all sums with it, as in a pivot, so that each takes one comparison.
 pub fn within_reach(a: u64, b: u64) -> bool
     ensures { result ≡ nat_le (a + b) (2 ^ 50) }
 {
-    a.checked_add(b).is_some_and(|sum| sum <= REACH)
+    REACH.checked_sub(a).is_some_and(|left| b <= left)
 }

@@ -1,15 +1,53 @@
 // Whole ticks: a bound is open or a number, since "< c" is "≤ c − 1".
+ghost use Rattle.std.specs.Prelude.{◌≡◌, refl};
+ghost use Rattle.std.proofs.Common.{rules};
+ghost use Rattle.std.specs.Ordering.{as_partial_cmp};
+ghost use Rattle.std.specs.Cmp.{po};
+ghost use Rattle.std.specs.Cmp.Rules.{comparing};
+ghost use Rattle.bound.specs.Orders.{tick_cmp, tick_total};
 ghost use Rattle.bound.specs.Ticks.{tick_meaning};
 ghost use Rattle.bound.specs.Ticking;
 
 use crate::Bound;
 use crate::sizes::{in_range, within_reach};
+use std::cmp::Ordering;
 
-// In order from the tightest, with the open one last: an Option would have its None first.
-#[derive(Clone, Copy, PartialEq, Eq, PartialOrd, Ord, Debug)]
+// The open one stands first, so that a table of open bounds is all zero bytes, and is cleared as such. In the order
+// it is the last, so the order is not derived.
+#[derive(Clone, Copy, PartialEq, Eq, Debug)]
 pub enum Tick {
-    AtMost(i64),
     Open,
+    AtMost(i64),
+}
+
+// In order from the tightest, with the open one last.
+impl Ord for Tick {
+    ghost cmp = { tick_cmp };
+
+    ghost total = { tick_total };
+
+    ghost matches_partial_cmp = { λ x y. refl };
+
+    ghost matches_eq = { Prim.search (comparing, rules) };
+
+    fn cmp(&self, other: &Tick) -> Ordering {
+        match (*self, *other) {
+            (Tick::Open, Tick::Open) => Ordering::Equal,
+            (Tick::Open, Tick::AtMost(_)) => Ordering::Greater,
+            (Tick::AtMost(_), Tick::Open) => Ordering::Less,
+            (Tick::AtMost(a), Tick::AtMost(b)) => a.cmp(&b),
+        }
+    }
+}
+
+impl PartialOrd for Tick {
+    ghost partial_cmp = { as_partial_cmp tick_cmp };
+
+    ghost laws = { po tick_total (Prim.search (comparing, rules)) };
+
+    fn partial_cmp(&self, other: &Tick) -> Option<Ordering> {
+        Some(self.cmp(other))
+    }
 }
 
 impl Bound for Tick {
@@ -37,8 +75,13 @@ impl Bound for Tick {
         }
     }
 
+    // As `self <= other` (proofs/Ordered), but by cases, which takes fewer instructions.
     fn tighter(self, other: Tick) -> bool {
-        self <= other
+        match (self, other) {
+            (_, Tick::Open) => true,
+            (Tick::Open, Tick::AtMost(_)) => false,
+            (Tick::AtMost(a), Tick::AtMost(b)) => a <= b,
+        }
     }
 
     fn size(self) -> u64 {
@@ -84,6 +127,7 @@ mod tests {
         ] {
             assert_eq!(rt; a.sum(b), sum);
             assert_eq!(rt; a.tighter(b), tighter);
+            assert_eq!(rt; a <= b, tighter);
         }
         assert_eq!(rt; AtMost(5).plus(AtMost(-3)), AtMost(2));
     }

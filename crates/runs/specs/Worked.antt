@@ -103,7 +103,7 @@ abbrev pub at_most_minus : ℕ → Tick
 at_most_minus c = tick.AtMost (neg_ℤ (pos c))
 
 abbrev pub under_three : Edge
-under_three = edge.Number (pos 3) mark.Under
+under_three = edge.Number mark.Under (pos 3)
 
 -- ── The claims ──
 

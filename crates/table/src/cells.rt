@@ -38,5 +38,6 @@ pub fn clear<B: Bound>(table: &mut [B], count: usize)
     ensures beyond { Beyond B.meaning count table.old table.new }
 {
     // the library's `fill` asks for a clone that cannot fail; `fill_with` gets no proof where a parameter names the kind
-    fill_row(&mut table[..count], |_, _| B::open());
+    let open = B::open();
+    fill_row(&mut table[..count], |_, _| open);
 }

@@ -34,7 +34,7 @@ pub fn is_name(name: Name, timers: Timers) -> bool
 pub fn sum_or_open<B: Bound>(first: B, second: B) -> B
     ensures { result ≡ answered B.meaning (B.meaning.sum first second) }
 {
-    first.sum(second).unwrap_or(B::open())
+    first.sum(second).unwrap_or_else(|| B::open())
 }
 
 impl<'a, B: Bound> Table<'a, B> {
