@@ -76,3 +76,7 @@ extent_pair r = (r.start, r.end - r.start)
 -- the bytes that the pair of chart k names
 abbrev pub handed : List ℕ → ℕ → Result (List ℕ) BookFault
 handed book k = result_map_both (λ p. take p.1 (drop p.0 book)) (λ e. e) (place_of book k)
+
+-- the same, with the byte at which it begins
+abbrev pub found : List ℕ → ℕ → Result (ℕ × List ℕ) BookFault
+found book k = result_map_both (λ p. (p.0, take p.1 (drop p.0 book))) (λ e. e) (place_of book k)

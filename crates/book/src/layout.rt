@@ -1,7 +1,7 @@
 // The layout of a book: how many charts it has, and the part that each one's pair names.
 ghost use Rattle.std.specs.Prelude.{◌≡◌, ◌+◌, ◌-◌, ◌*◌, ◌^◌, ◌<◌, ◌≤◌, true, ◌↔◌, length, is_ok, IfOk};
 ghost use Rattle.std.specs.Result.{result_map_both};
-ghost use Rattle.book.specs.Layout.{offset, size, Sound, charts_of, place_of, extent_pair, handed};
+ghost use Rattle.book.specs.Layout.{offset, size, Sound, charts_of, place_of, extent_pair, handed, found};
 
 use chart::bytes::{u16_at, u32_at};
 use faults::BookFault;
@@ -73,11 +73,22 @@ pub(crate) fn place(book: &[u8], number: u16) -> Result<Range<usize>, BookFault>
     Ok(pair(book, number - 1))
 }
 
+// The part of chart `number`, counted from 1, and the byte of the book at which it begins. Whoever reads a chart
+// gets its part here.
+pub(crate) fn part(book: &[u8], number: u16) -> Result<(u32, &[u8]), BookFault>
+    ensures bytes { result_map_both (λ p. (p.0, p.1.now)) (λ e. e) result ≡ found book.now number }
+    ensures place { IfOk result (λ p. p.1.ref_ptr ≡ (book.entry.ref_ptr.0, book.entry.ref_ptr.1 + offset book.now (number - 1))) }
+    ensures short { IfOk result (λ p. length p.1.now ≤ 65536) }
+{
+    let place = place(book, number)?;
+    Ok((place.start as u32, &book[place]))
+}
+
 // Chart `number`, counted from 1: the part of the book that its pair names.
 pub fn chart(book: &[u8], number: u16) -> Result<&[u8], BookFault>
     ensures bytes { result_map_both (λ x. x.now) (λ e. e) result ≡ handed book.now number }
     ensures place { IfOk result (λ p. p.ref_ptr ≡ (book.entry.ref_ptr.0, book.entry.ref_ptr.1 + offset book.now (number - 1))) }
 {
-    let place = place(book, number)?;
-    Ok(&book[place])
+    let (_, part) = part(book, number)?;
+    Ok(part)
 }

@@ -5,7 +5,7 @@ ghost use Rattle.book.specs.Parts.{head_of, count_of, Counts};
 ghost use Rattle.book.specs.Reads.{motions_of, coming};
 
 use crate::head::{Head, Kind};
-use crate::layout::place;
+use crate::layout::part;
 use crate::types::Motions;
 use chart::Timers;
 use faults::{AtChart, BookFault, ChartFault};
@@ -30,9 +30,7 @@ pub fn head_of(part: &[u8]) -> Result<Head, ChartFault>
 pub fn motions(book: &[u8], number: u16) -> Result<Motions<'_>, BookFault>
     ensures { result_map_both (λ m. (m.head, coming m)) (λ e. e) result ≡ motions_of book.now number }
 {
-    let place = place(book, number)?;
-    let start = place.start as u32;
-    let part = &book[place];
+    let (start, part) = part(book, number)?;
     let head = head_of(part).map_err(|fault| AtChart {
         chart: number,
         part: start,
