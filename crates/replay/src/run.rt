@@ -15,8 +15,9 @@ use std::alloc::{AllocError, Global};
 fn empty_all<B: Bound>(slots: &mut [Slot<B>])
     ensures { Emptied B.meaning slots.old slots.new }
 {
-    for slot in slots.iter_mut() {
-        slot.header = Header::blank();
+    // by place, since the edit replay-not-blank names another place
+    for i in 0..slots.len() {
+        slots[i].header = Header::blank();
     }
 }
 
